@@ -1,0 +1,4 @@
+pub mod ByteLists
+pub mod CursorAt
+pub mod Registers
+pub mod Views

@@ -1,0 +1,17 @@
+//! Words, bytes and small types that every layer speaks of: texts and byte lists, a cursor that
+//! counts lines, the kinds of access and build, the registers.
+#![tactic(auto)]
+
+mod bytes;
+mod cursor;
+mod kinds;
+mod regs;
+mod text;
+mod words;
+
+pub use bytes::Bytes;
+pub use cursor::Cursor;
+pub use kinds::{Access, AluOp, Build, Cond, Mode};
+pub use regs::Regs;
+pub use text::Text;
+pub use words::{get_le32, put_le32};
