@@ -1,4 +1,5 @@
-ghost use Rattle.std.specs.Prelude.{◌≡◌, [], ◌∷◌, ◌++◌, IfOk, OnOk, OnErr, IsTrue, ◌↔◌, length};
+ghost use Rattle.std.specs.Prelude.{◌≡◌, ◌^◌, ◌<◌, [], ◌∷◌, ◌++◌, IfOk, OnOk, OnErr, IsTrue, ◌↔◌, length, replicate};
+ghost use Rattle.nx_base.specs.ByteLists.{to_le};
 ghost use Rattle.std.specs.Str.{bytes_eq};
 ghost use Rattle.std.specs.Cmp.{partial_equiv_from_equiv};
 ghost use Rattle.std.specs.Cmp.Lexicographic.{nat_list_eq_equiv};
@@ -96,6 +97,38 @@ impl Bytes {
         ensures err { OnErr result (self.new ≡ self.old) }
     {
         self.items.extend_from_slice(bytes)
+    }
+
+    /// Puts a number in four bytes behind the others, the lowest first.
+    #[tactic(auto, unfolding(crate::specs::ByteLists::to_le))]
+    pub fn append_le32(&mut self, value: u32) -> Result<(), AllocError>
+        ensures ok { OnOk result (self.new ≡ self.old ++ to_le 4 value) }
+        ensures err { OnErr result (self.new ≡ self.old) }
+    {
+        self.append(&[
+            (value % 256) as u8,
+            (value / 256 % 256) as u8,
+            (value / 256 / 256 % 256) as u8,
+            (value / 256 / 256 / 256 % 256) as u8,
+        ])
+    }
+
+    /// Puts a number in two bytes behind the others, the lowest first.
+    #[tactic(auto, unfolding(crate::specs::ByteLists::to_le))]
+    pub fn append_le16(&mut self, value: u16) -> Result<(), AllocError>
+        ensures ok { OnOk result (self.new ≡ self.old ++ to_le 2 value) }
+        ensures err { OnErr result (self.new ≡ self.old) }
+    {
+        self.append(&[(value % 256) as u8, (value / 256 % 256) as u8])
+    }
+
+    /// Puts zero bytes behind the others.
+    pub fn append_zeros(&mut self, alloc: Global, count: usize) -> Result<(), AllocError>
+        ensures ok { OnOk result (self.new ≡ self.old ++ replicate count 0) }
+        ensures err { OnErr result (self.new ≡ self.old) }
+    {
+        let zeros = vec![in alloc; 0u8; count]?;
+        self.append(&zeros)
     }
 }
 
