@@ -1,4 +1,5 @@
 pub mod ByteLists
+pub mod Counted
 pub mod CursorAt
 pub mod Registers
 pub mod Views

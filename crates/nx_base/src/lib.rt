@@ -3,6 +3,7 @@
 #![tactic(auto)]
 
 mod bytes;
+mod count;
 mod cursor;
 mod kinds;
 mod regs;
@@ -10,8 +11,12 @@ mod text;
 mod words;
 
 pub use bytes::Bytes;
+pub use count::Count;
 pub use cursor::Cursor;
 pub use kinds::{Access, AluOp, Build, Cond, Mode};
 pub use regs::Regs;
 pub use text::Text;
 pub use words::{get_le32, put_le32};
+
+#[cfg(test)]
+mod tests;
