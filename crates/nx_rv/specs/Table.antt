@@ -1,7 +1,6 @@
 -- The instruction table: the word of each instruction, a row each, in the manual's order.
 use Rattle.std.specs.Prelude.{◌≡◌, ℕ, ◌%◌, ◌^◌, ◌<◌, ◌&&◌, ◌==◌, if◌then◌else◌, Option, Some, None, ℤ}
 use Rattle.std.specs.Int.{w32, cast_unsigned}
-use Rattle.nx_base.specs.declared.kinds.AluOp.{AluOp}
 use Rattle.nx_base.specs.declared.kinds.AluOp.TheVariants as op
 use Rattle.nx_rv.specs.declared.inst.Inst.{Inst}
 use Rattle.nx_rv.specs.declared.inst.Inst.TheVariants.{Lui, Jal, Jalr, OpImm, Ecall}

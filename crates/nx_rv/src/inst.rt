@@ -7,9 +7,24 @@ use nx_base::AluOp;
 /// to 2047. The one operation with an immediate so far is `AluOp::Add`.
 #[derive(Clone, Copy, Debug, PartialEq, Eq)]
 pub enum Inst {
-    Lui { rd: u8, imm: u32 },
-    Jal { rd: u8, offset: i32 },
-    Jalr { rd: u8, rs1: u8, imm: i32 },
-    OpImm { op: AluOp, rd: u8, rs1: u8, imm: i32 },
+    Lui {
+        rd: u8,
+        imm: u32,
+    },
+    Jal {
+        rd: u8,
+        offset: i32,
+    },
+    Jalr {
+        rd: u8,
+        rs1: u8,
+        imm: i32,
+    },
+    OpImm {
+        op: AluOp,
+        rd: u8,
+        rs1: u8,
+        imm: i32,
+    },
     Ecall,
 }

@@ -1,0 +1,5 @@
+use Rattle.nx_rv.proofs.Rows.{one_instruction}
+use Rattle.nx_rv.proofs.laws.the_table_is_one_to_one.Goals as goal
+
+pub returns-clause-instruction : goal.returns-clause-instruction
+returns-clause-instruction c = one_instruction
