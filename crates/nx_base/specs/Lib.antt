@@ -1,3 +1,4 @@
+pub mod Arithmetic
 pub mod ByteLists
 pub mod Counted
 pub mod CursorAt
