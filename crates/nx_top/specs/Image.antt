@@ -27,17 +27,23 @@ filled width bytes = bytes ++ replicate (width - length bytes) 0
 unfoldable pub gate_bytes : Gate → List ℕ
 gate_bytes g = to_le 2 g.number ++ length g.kinds ∷ 0 ∷ (filled 6 g.kinds ++ 0 ∷ 0 ∷ [])
 
+-- where the text is and how long, the same of the data, the main function and the stubs
+unfoldable pub program_numbers : ProgImage → List ℕ
+program_numbers p =
+    to_le 4 p.text_at ++ to_le 4 (length p.text) ++ to_le 4 p.data_at ++ to_le 4 (length p.init)
+    ++ to_le 4 p.main ++ to_le 4 p.end_group ++ to_le 4 p.end_thread
+
 -- 32 bytes of name, seven numbers, the text, the data
 unfoldable pub program_bytes : ProgImage → List ℕ
-program_bytes p =
-    filled 32 p.name ++ to_le 4 p.text_at ++ to_le 4 (length p.text) ++ to_le 4 p.data_at ++ to_le 4 (length p.init)
-    ++ to_le 4 p.main ++ to_le 4 p.end_group ++ to_le 4 p.end_thread ++ p.text ++ p.init
+program_bytes p = filled 32 p.name ++ program_numbers p ++ p.text ++ p.init
 
--- the image of a flat build: the mark, build 0, the bytes of RAM, the gates, the programs
+-- the mark, the build, the bytes of RAM, the gates, and how many programs follow
+unfoldable pub flat_head : ℕ → List Gate → ℕ → List ℕ
+flat_head ram gates programs = codes "NXI1" ++ to_le 4 0 ++ to_le 4 ram ++ to_le 4 (length gates) ++ flat_map gate_bytes gates ++ to_le 4 programs
+
+-- the image of a flat build
 unfoldable pub flat_image_bytes : ℕ → List Gate → List ProgImage → List ℕ
-flat_image_bytes ram gates programs =
-    codes "NXI1" ++ to_le 4 0 ++ to_le 4 ram ++ to_le 4 (length gates) ++ flat_map gate_bytes gates
-    ++ to_le 4 (length programs) ++ flat_map program_bytes programs
+flat_image_bytes ram gates programs = flat_head ram gates (length programs) ++ flat_map program_bytes programs
 
 -- write: a descriptor, a buffer and its length
 abbrev pub write_gate : Gate

@@ -33,3 +33,7 @@ stack_low text_length = data_start text_length + stack_bytes
 
 abbrev pub stack_high : ℕ → ℕ
 stack_high text_length = data_start text_length + 2 * stack_bytes
+
+-- how many instructions a run may make
+abbrev pub fuel : ℕ
+fuel = 100000000

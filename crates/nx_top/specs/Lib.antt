@@ -5,3 +5,12 @@ pub mod Layout
 pub mod Compiled
 pub mod Image
 pub mod Runs
+pub mod Steps
+pub mod Guests
+pub mod IsCompiled
+pub mod Report
+pub mod Reported
+pub mod FormSeen
+pub mod Reading
+pub mod FilesRead
+pub mod Top

@@ -1,5 +1,25 @@
 //! The top call: it reads the files of the words, builds the image, runs it and puts the report.
 #![tactic(auto)]
 
+mod answer;
+mod boot;
+mod build;
+mod compile;
+mod guest;
 mod image;
+mod inputs;
+mod keeps;
+mod layout;
+mod machine;
+mod program;
+mod put;
+mod reading;
+mod report;
+mod run;
+mod tokens;
+mod top;
+mod words;
 
+pub use keeps::words_keep_the_program;
+pub use program::one_program;
+pub use top::nxsim;

@@ -1,0 +1,9 @@
+use Rattle.std.proofs.Common.{ℕ, List, sym, ◌∙◌, ap, map}
+use Rattle.std.specs.Option.{option_map}
+use denote.Ref.{Bor}
+use Rattle.nx_top.specs.FormSeen.{form_seen}
+use Rattle.nx_top.proofs.JudgeLemmas.{named}
+use Rattle.nx_top.proofs.answer.answer_to.Goals as goal
+
+pub for_form-requires : goal.for_form-requires
+for_form-requires g c = named (map (λ (w : Bor (List ℕ)). w.now) c.args.words.now) (form_seen c.in-Some.form) (sym c.form.ensures ∙ ap (option_map form_seen) c.in-Some.is)
