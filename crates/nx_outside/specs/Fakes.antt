@@ -7,14 +7,15 @@ use Rattle.nx_outside.specs.declared.files.FileStop.{FileStop}
 use Rattle.nx_outside.specs.declared.files.FileStop.TheVariants.{Failed}
 use Rattle.nx_outside.specs.Outside.{Told, content_of}
 
--- files in memory: what they tell, the numbers of the reads that fail, the reads so far, and the faults so far
+-- files in memory: what they tell, the numbers of the reads that fail, and how many reads and faults there were
 pub record FilesHeld : Type 0 where
   pub told : Told
   pub fails : List ℕ
   pub calls : ℕ
   pub faults : ℕ
 
--- a sink in memory: its bytes, the numbers of the puts that fail, how many bytes such a put keeps, the room for all bytes, the puts so far, and the faults so far
+-- a sink in memory: its bytes, the numbers of the puts that fail, how many bytes such a put keeps,
+-- the room for all bytes, and how many puts and faults there were
 pub record SinkHeld : Type 0 where
   pub bytes : List ℕ
   pub fails : List ℕ

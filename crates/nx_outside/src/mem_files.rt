@@ -79,7 +79,10 @@ impl MemFiles {
 
     // Puts the name behind those asked.
     fn note(&mut self, name: &str) -> Result<(), FileStop>
-        ensures ok { OnOk result (self.new ≡ record self.old { told = record { contents = self.old.told.contents; asked = self.old.told.asked ++ name.now ∷ [] } }) }
+        ensures ok { OnOk result (self.new ≡ record self.old {
+          told =
+              record self.old.told { asked = self.old.told.asked ++ name.now ∷ [] };
+        }) }
         ensures err { IfErr result (λ e. (e ≡ FileStop.Memory) × (self.new ≡ self.old)) }
     {
         let own = String::from_str(self.alloc, name).map_err(|_| FileStop::Memory)?;
@@ -125,7 +128,8 @@ impl Files for MemFiles {
 
         // Exactly the reads that are to fail do, but for want of memory.
         ensures failed { (result ≡ Err FileStop.Failed) → FailsRead self.old name.now }
-        ensures fails { FailsRead self.old name.now → (result ≡ Err FileStop.Failed) ⊎ (result ≡ Err FileStop.Memory) }
+        ensures fails { FailsRead self.old name.now
+            → (result ≡ Err FileStop.Failed) ⊎ (result ≡ Err FileStop.Memory) }
 
         // Each read has its number, and each fault is counted once.
         ensures calls { self.new.calls ≡ next self.old.calls }

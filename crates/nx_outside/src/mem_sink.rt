@@ -48,7 +48,14 @@ impl MemSink {
         keep: usize,
         room: usize,
     ) -> Result<MemSink, AllocError>
-        ensures { IfOk result (λ s. s ≡ record { bytes = []; fails = fails.items; keep = keep; room = room; calls = 0; faults = 0 }) }
+        ensures { IfOk result (λ s. s ≡ record {
+          bytes = [];
+          fails = fails.items;
+          keep = keep;
+          room = room;
+          calls = 0;
+          faults = 0;
+        }) }
     {
         let written = Vec::with_capacity(alloc, room)?;
         Ok(MemSink {
@@ -122,7 +129,8 @@ impl Sink for MemSink {
 
         // Exactly the puts that are to fail do, and keep so much of the piece.
         ensures fails { IsErr result ↔ FailsPut self.old piece.now }
-        ensures front { OnErr result (self.new.bytes ≡ self.old.bytes ++ take (kept self.old) piece.now) }
+        ensures front { OnErr result
+            (self.new.bytes ≡ self.old.bytes ++ take (kept self.old) piece.now) }
 
         // Each put has its number, and each fault is counted once.
         ensures calls { self.new.calls ≡ next self.old.calls }
