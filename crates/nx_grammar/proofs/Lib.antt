@@ -1,0 +1,12 @@
+pub mod Fronts
+pub mod Sequences
+pub mod Choices
+pub mod Results
+pub mod Loops
+pub mod LoopLaws
+pub mod Growth
+pub mod LoopGrowth
+pub mod Faults
+pub mod Spares
+pub mod Thens
+pub mod Chains

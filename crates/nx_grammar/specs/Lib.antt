@@ -1,0 +1,6 @@
+pub mod Reading
+pub mod Chains
+pub mod Lawful
+pub mod Growing
+pub mod Faults
+pub mod Sparing
