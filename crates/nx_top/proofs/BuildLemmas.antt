@@ -1,8 +1,8 @@
 -- Where the main function of a compiled program stands.
-use Rattle.std.proofs.Common.{◌≡◌, ℕ, ◌+◌, ◌*◌, ◌<◌, ◌≤◌, List, ◌++◌, length, ap, ◌∙◌, arith, length-append, sym}
+use Rattle.std.proofs.Common.{◌+◌, ◌<◌, ◌++◌, length, arith, length-append}
 use Rattle.nx_top.specs.Layout.{text_start}
 use Rattle.nx_top.specs.Program.{Program}
-use Rattle.nx_top.specs.Compiled.{proxies, main_at, insts_of, code_bytes, literals, padded, text_of}
+use Rattle.nx_top.specs.Compiled.{main_at, insts_of, code_bytes, literals, text_of}
 use Rattle.nx_top.proofs.Sizes.{length-code_bytes, length-insts, length-padded}
 
 pub main_inside : (p : Program) → main_at p < text_start + length (text_of p)

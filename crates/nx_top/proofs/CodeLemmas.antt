@@ -1,11 +1,10 @@
 -- Steps of the loops that compile.
-use Rattle.std.proofs.Common.{◌≡◌, ℕ, ◌+◌, ◌<◌, ◌≤◌, List, [], ◌∷◌, ◌++◌, length, drop, refl, sym, ap, ◌∙◌, arith, append_assoc, get_or}
-use Rattle.std.specs.List.{flat_map}
+use Rattle.std.proofs.Common.{◌≡◌, ℕ, ◌+◌, ◌<◌, ◌≤◌, List, [], ◌∷◌, ◌++◌, length, drop, refl, sym, ap, ◌∙◌, append_assoc, get_or}
 use Rattle.std.proofs.lemmas.List.{drop_more, drop_all, append-nil}
 use Rattle.nx_base.specs.ByteLists.{to_le}
 use Rattle.nx_rv.specs.declared.inst.Inst.{Inst}
 use Rattle.nx_rv.specs.Table.{encode_of}
-use Rattle.nx_top.specs.Compiled.{code_bytes, write_code, writes_code, literals}
+use Rattle.nx_top.specs.Compiled.{code_bytes, write_code, writes_code}
 
 pub code_bytes-append : (xs ys : List Inst) → code_bytes (xs ++ ys) ≡ code_bytes xs ++ code_bytes ys
 unfolding code_bytes
@@ -21,7 +20,7 @@ writes_more strings old new all i here literal next d lt e n h =
     let s = get_or strings i d in
     let rest = code_bytes (writes_code (here + 20) next (drop (i + 1) strings)) in
     let first : writes_code here literal (drop i strings) ≡ write_code here literal (length s) ++ writes_code (here + 20) next (drop (i + 1) strings) =
-        ap (writes_code here literal) (drop_more strings i d lt) ∙ ap (λ k. write_code here literal (length s) ++ writes_code (here + 20) k (drop (i + 1) strings)) (sym n) in
+    ap (writes_code here literal) (drop_more strings i d lt) ∙ ap (λ k. write_code here literal (length s) ++ writes_code (here + 20) k (drop (i + 1) strings)) (sym n) in
     ap (λ v. v ++ rest) e
     ∙ append_assoc old (code_bytes (write_code here literal (length s))) rest
     ∙ ap (λ v. old ++ v) (sym (ap code_bytes first ∙ code_bytes-append (write_code here literal (length s)) (writes_code (here + 20) next (drop (i + 1) strings))))

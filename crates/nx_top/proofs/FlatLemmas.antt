@@ -1,9 +1,9 @@
 -- What the flat view answers.
-use Rattle.std.proofs.Common.{◌≡◌, ℕ, ◌+◌, ◌-◌, ◌<◌, ◌≤◌, ◌⊎◌, Bool, true, false, List, [], ◌∷◌, length, Option, Some, None, Result, Ok, Err, refl, sym, ap, ◌∙◌, arith, ⊎_elim}
-use Rattle.std.specs.Prelude.{nat_le, ◌&&◌, if◌then◌else◌}
+use Rattle.std.proofs.Common.{◌≡◌, ℕ, ◌+◌, ◌-◌, ◌<◌, ◌≤◌, ◌⊎◌, true, false, List, length, Ok, Err, arith, ⊎_elim}
+use Rattle.std.specs.Prelude.{nat_le, ◌&&◌}
 use Rattle.std.proofs.lemmas.Bool.Decides.{nat_tests}
 use Rattle.nx_base.specs.ByteLists.{get_bytes, from_le}
-use Rattle.nx_base.specs.Views.{Window, holds, find_bytes, fetch_word, number_or}
+use Rattle.nx_base.specs.Views.{holds, find_bytes, fetch_word}
 use Rattle.nx_top.specs.Runs.{flat_view}
 use Rattle.nx_top.specs.Layout.{ram_start, ram_bytes}
 

@@ -1,11 +1,10 @@
 -- What a planned run does up to its next call.
-use Rattle.std.proofs.Common.{◌≡◌, ℕ, zero, suc, ◌+◌, ◌-◌, ◌<◌, ◌≤◌, List, [], ◌∷◌, ◌++◌, length, refl, sym, ap, ◌∙◌, subst, arith, append_assoc, append-nil}
-use Rattle.std.specs.Prelude.{take, drop}
+use Rattle.std.proofs.Common.{◌≡◌, ℕ, zero, suc, ◌+◌, ◌-◌, ◌≤◌, List, [], ◌∷◌, ◌++◌, length, refl, sym, ap, ◌∙◌, subst, arith, append_assoc, append-nil}
 use Rattle.nx_base.specs.declared.regs.Regs.{Regs}
 use Rattle.nx_base.specs.Registers.{reg, with_reg}
 use Rattle.nx_base.specs.Views.{View}
-use Rattle.nx_rv.specs.Execution.{Turn, Goes, Calls, Traps, Halt, Call, Trap, Fuel, End, turn, after, stretch, ReachesCall}
-use Rattle.nx_top.specs.Runs.{flat_view, Asked, HoldsFrom, MakesCall, Makes, write_call, end_call, calls_of}
+use Rattle.nx_rv.specs.Execution.{Turn, Goes, Calls, Traps, Halt, Call, End, turn, after, stretch, ReachesCall}
+use Rattle.nx_top.specs.Runs.{flat_view, Makes, calls_of}
 use Rattle.nx_top.specs.Guests.{Plan, joined, LiesAt, LieAt, Remains, IsDone, IsWithin}
 
 abbrev end_at : Regs → View → ℕ → Halt → End

@@ -1,16 +1,16 @@
 -- A booted image follows the plan of its program.
-use Rattle.std.proofs.Common.{◌≡◌, ℕ, zero, suc, ◌+◌, ◌-◌, ◌*◌, ◌<◌, ◌≤◌, List, [], ◌∷◌, ◌++◌, length, take, drop, get_or, Option, Some, None, refl, sym, ap, ◌∙◌, subst, arith, add-one, drop-cons, append_assoc, length-append}
+use Rattle.std.proofs.Common.{◌≡◌, ℕ, zero, suc, ◌+◌, ◌-◌, ◌*◌, ◌<◌, ◌≤◌, List, [], ◌∷◌, ◌++◌, length, take, drop, Some, refl, sym, ap, ◌∙◌, arith, append_assoc, length-append}
 use Rattle.std.specs.Prelude.{slice_index}
 use Rattle.std.proofs.lemmas.List.{drop_more, drop-append-le, take-append-le, length-drop}
 use Rattle.std.proofs.Math.Seq.{drop-append-add}
 use Rattle.nx_base.specs.ByteLists.{get_bytes}
 use Rattle.nx_top.specs.declared.image.ProgImage.{ProgImage}
 use Rattle.nx_top.specs.declared.guest.GuestRun.{GuestRun}
-use Rattle.nx_top.specs.Layout.{ram_start, ram_bytes, fuel}
+use Rattle.nx_top.specs.Layout.{ram_start}
 use Rattle.nx_top.specs.Program.{Program}
 use Rattle.nx_top.specs.IsCompiled.{FitsText, IsCompiled}
-use Rattle.nx_top.specs.Runs.{IsBooted, StandsAt, StandAt, Keeps, start_regs}
-use Rattle.nx_top.specs.Guests.{Plan, LiesAt, LieAt, IsPlanned, IsDone, RanAs}
+use Rattle.nx_top.specs.Runs.{IsBooted, StandsAt, StandAt, start_regs}
+use Rattle.nx_top.specs.Guests.{Plan, LiesAt, LieAt, IsPlanned, RanAs}
 use Rattle.nx_top.specs.Reported.{IsRunOf}
 use Rattle.nx_top.proofs.KeepsProgram.{keeps}
 use Rattle.nx_top.proofs.Sizes.{length_text}

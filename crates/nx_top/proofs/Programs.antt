@@ -1,16 +1,15 @@
 -- A program is read exactly where it is spelled.
-use Rattle.std.proofs.Common.{◌≡◌, ◌≢◌, ◌⊎◌, ℕ, zero, suc, ◌+◌, ◌<◌, ◌≤◌, ◌^◌, Bool, true, false, ◌&&◌, ◌||◌, not, cond, nat_le, nat_eq, ◌==◌, List, [], ◌∷◌, ◌++◌, length, flat_map, codes, decimal, Option, Some, None, refl, sym, ap, subst, ◌∙◌, inl, inr, append_assoc, append-nil, All, arith}
+use Rattle.std.proofs.Common.{◌≡◌, ◌≢◌, ◌⊎◌, ℕ, zero, suc, ◌<◌, ◌≤◌, Bool, true, false, ◌&&◌, ◌||◌, cond, ◌==◌, List, [], ◌∷◌, ◌++◌, length, flat_map, codes, decimal, Option, Some, None, refl, sym, ap, subst, ◌∙◌, inl, inr, append_assoc, append-nil, All, arith}
 use Rattle.std.specs.List.{list_all, AllByRecursion}
-use Rattle.std.proofs.lemmas.Bool.{eqb-true, eq-eqb}
-use Rattle.std.proofs.lemmas.List.Elements.{All-from_recursion, recursion_from_All}
-use Rattle.nx_top.specs.Words.{is_word_byte}
-use Rattle.nx_top.specs.Program.{Program, is_blank, begins_word, ends_word, quoted, write_tokens, tokens_of, Spelled, IsString, IsProgram}
+use Rattle.std.proofs.lemmas.Bool.{eqb-true}
+use Rattle.std.proofs.lemmas.List.Elements.{All-from_recursion}
+use Rattle.nx_top.specs.Program.{Program, is_blank, begins_word, quoted, write_tokens, tokens_of, Spelled, IsString, IsProgram}
 use Rattle.nx_top.specs.Program.Spelled.{Done}
-use Rattle.nx_top.specs.Reading.{◌>>=◌, begins_blank, begins_digit, is_digit, behind_gap, behind_text, behind_token, behind_tokens, digits_at, number_at, not_empty, string_at, write_end, write_at, end_of, end_or, body_from, reading}
+use Rattle.nx_top.specs.Reading.{◌>>=◌, begins_digit, is_digit, behind_gap, behind_token, behind_tokens, digits_at, number_at, string_at, write_end, write_at, end_of, end_or, body_from, reading}
 use Rattle.nx_top.proofs.Choices.{bind_some, guard_some, both, told}
-use Rattle.nx_top.proofs.TokenReading.{Gap, gap_sound, gap_whole, token_gap, with_token, token_whole, Spelt, spelt, all_blank, tokens_sound, tokens_whole, word_behind}
-use Rattle.nx_top.proofs.Numbers.{digits_sound, digits_whole, Digits, digits_of}
-use Rattle.nx_top.proofs.Strings.{string_sound, quoted_ends, Strung, quoted_whole}
+use Rattle.nx_top.proofs.TokenReading.{Gap, gap_sound, gap_whole, token_gap, with_token, spelt, tokens_sound}
+use Rattle.nx_top.proofs.Numbers.{digits_sound, digits_whole, digits_of}
+use Rattle.nx_top.proofs.Strings.{string_sound, quoted_ends}
 
 -- numbers behind a gap
 

@@ -1,14 +1,13 @@
 -- What is spelled as a program is read as that program.
-use Rattle.std.proofs.Common.{◌≡◌, ◌≢◌, ◌⊎◌, ℕ, zero, suc, ◌+◌, ◌<◌, ◌≤◌, Bool, true, false, ◌&&◌, cond, ◌==◌, List, [], ◌∷◌, ◌++◌, length, flat_map, codes, decimal, Option, Some, None, refl, sym, ap, subst, ◌∙◌, append_assoc, append-nil, arith}
-use Rattle.std.specs.List.{list_all, AllByRecursion}
+use Rattle.std.proofs.Common.{◌≡◌, ℕ, zero, suc, ◌<◌, ◌≤◌, true, false, List, [], ◌∷◌, ◌++◌, length, flat_map, codes, decimal, Some, None, refl, sym, ap, subst, ◌∙◌, append_assoc, append-nil, arith}
+use Rattle.std.specs.List.{AllByRecursion}
 use Rattle.std.proofs.lemmas.Bool.{eq-eqb}
 use Rattle.std.proofs.lemmas.List.Elements.{recursion_from_All}
-use Rattle.nx_top.specs.Program.{Program, is_blank, begins_word, ends_word, quoted, write_tokens, tokens_of, Spelled, IsString, IsProgram}
-use Rattle.nx_top.specs.Reading.{◌>>=◌, begins_digit, behind_gap, behind_text, behind_token, behind_tokens, number_at, string_at, write_end, write_at, end_of, end_or, body_from, reading}
-use Rattle.nx_top.proofs.Choices.{cond_true}
-use Rattle.nx_top.proofs.TokenReading.{gap_whole, token_whole, Spelt, spelt, all_blank, Passed, tokens_whole}
-use Rattle.nx_top.proofs.Strings.{Quoted, quoted_whole}
-use Rattle.nx_top.proofs.Programs.{Counted, number_whole, apart_tokens, tail_of}
+use Rattle.nx_top.specs.Program.{Program, quoted, write_tokens, tokens_of, Spelled, IsString, IsProgram}
+use Rattle.nx_top.specs.Reading.{◌>>=◌, behind_gap, behind_text, behind_token, write_end, write_at, end_of, end_or, body_from, reading}
+use Rattle.nx_top.proofs.TokenReading.{gap_whole, token_whole, spelt, all_blank, tokens_whole}
+use Rattle.nx_top.proofs.Strings.{quoted_whole}
+use Rattle.nx_top.proofs.Programs.{number_whole, apart_tokens, tail_of}
 
 -- the end of a write
 record Closed (count : ℕ) (others : List (List ℕ)) (bytes : List ℕ) : Type 0 where

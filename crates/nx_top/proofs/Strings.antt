@@ -1,12 +1,12 @@
 -- A string is read exactly where it is spelled.
-use Rattle.std.proofs.Common.{◌≡◌, ◌≢◌, ◌⊎◌, ℕ, zero, suc, ◌+◌, ◌<◌, ◌≤◌, Bool, true, false, ◌&&◌, ◌||◌, not, cond, nat_eq, nat_le, ◌==◌, List, [], ◌∷◌, ◌++◌, length, flat_map, Option, Some, None, refl, sym, ap, subst, ◌∙◌, inl, inr, append_assoc, append-nil, arith}
+use Rattle.std.proofs.Common.{◌≡◌, ◌⊎◌, ℕ, zero, suc, ◌<◌, ◌≤◌, Bool, true, false, ◌&&◌, ◌||◌, nat_le, ◌==◌, List, [], ◌∷◌, ◌++◌, length, flat_map, Some, refl, sym, ap, subst, ◌∙◌, inl, inr, append_assoc, append-nil, arith}
 use Rattle.std.specs.List.{list_all}
-use Rattle.std.proofs.lemmas.Bool.{leb-true, le-leb, eqb-true, eq-eqb}
+use Rattle.std.proofs.lemmas.Bool.{leb-true, le-leb, eqb-true}
 use Rattle.nx_top.specs.Words.{is_word_byte}
-use Rattle.nx_top.specs.Program.{is_blank, ends_word, begins_word, escaped, quoted, is_string_byte, IsString, Spelled}
-use Rattle.nx_top.specs.Reading.{◌>>=◌, begins_blank, behind_token, is_plain, escape_at, char_at, string_from, not_empty, string_at}
-use Rattle.nx_top.proofs.Choices.{bind_some, guard_some, guard_none, chosen, both, told, not_true, cond_true, cond_false}
-use Rattle.nx_top.proofs.TokenReading.{Gap, token_gap, token_whole, with_token, Spelt, spelt}
+use Rattle.nx_top.specs.Program.{ends_word, begins_word, escaped, quoted, is_string_byte, IsString, Spelled}
+use Rattle.nx_top.specs.Reading.{◌>>=◌, behind_token, is_plain, escape_at, char_at, string_from, not_empty, string_at}
+use Rattle.nx_top.proofs.Choices.{bind_some, guard_some, chosen, both, told, not_true, cond_true, cond_false}
+use Rattle.nx_top.proofs.TokenReading.{Gap, token_gap, token_whole, spelt}
 
 plain_string : (b : ℕ) → is_plain b ≡ true → is_string_byte b ≡ true
 plain_string b e = elim (told (b == 10)) [ inl t ↦ rw t refl | inr t ↦ rw (t, e) refl ]

@@ -1,12 +1,12 @@
 -- Tokens are read exactly where they are spelled.
-use Rattle.std.proofs.Common.{◌≡◌, ◌≢◌, ◌⊎◌, ℕ, suc, ◌+◌, Bool, true, false, ◌&&◌, not, cond, nat_eq, List, [], ◌∷◌, ◌++◌, length, drop, Option, Some, None, refl, sym, ap, subst, ◌∙◌, inl, inr, append_assoc, codes, arith}
+use Rattle.std.proofs.Common.{◌≡◌, ◌≢◌, ℕ, Bool, true, false, ◌&&◌, not, nat_eq, List, [], ◌∷◌, ◌++◌, length, drop, Some, refl, sym, ap, subst, ◌∙◌, append_assoc}
 use Rattle.std.specs.Cmp.{unsigned_Decides}
 use Rattle.std.specs.List.{list_all, starts_with}
 use Rattle.std.proofs.Math.Seq.{drop-append_seam}
 use Rattle.std.proofs.lemmas.Slice.Eq.{starts_is}
 use Rattle.nx_top.specs.Program.{is_blank, begins_word, ends_word, Spelled}
 use Rattle.nx_top.specs.Program.Spelled.{Done, Next}
-use Rattle.nx_top.specs.Reading.{◌>>=◌, begins_blank, behind_blanks, behind_gap, behind_text, behind_token, behind_tokens}
+use Rattle.nx_top.specs.Reading.{begins_blank, behind_blanks, behind_gap, behind_text, behind_token, behind_tokens}
 use Rattle.nx_top.proofs.Choices.{bind_some, guard_some, guard_none, both, not_true}
 
 -- blanks in front of a rest, one at least where one is wanted

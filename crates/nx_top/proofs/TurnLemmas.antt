@@ -1,18 +1,16 @@
 -- What an answer leaves of a planned run.
-use Rattle.std.proofs.Common.{◌≡◌, ℕ, ◌+◌, ◌-◌, List, ◌++◌, length, Result, Ok, Err, IfOk, OnOk, refl, sym, ap, ◌∙◌, subst}
+use Rattle.std.proofs.Common.{◌≡◌, ℕ, ◌+◌, List, ◌++◌, length, Result, Ok, Err, IfOk, OnOk, sym, ap, ◌∙◌, subst}
 use Rattle.std.proofs.Common.{◌⊎◌, ⊎_elim}
-use Rattle.std.specs.Prelude.{take, drop}
 use Rattle.nx_rv.specs.Execution.{Call}
 use Rattle.nx_top.specs.declared.machine.Stop.{Stop}
 use Rattle.nx_top.specs.declared.machine.Stop.TheVariants as stop
 use Rattle.nx_top.specs.Steps.{halt_of}
 use Rattle.std.specs.declared.alloc.AllocError.{AllocError}
-use Rattle.nx_base.specs.Registers.{reg, with_reg}
+use Rattle.nx_base.specs.Registers.{with_reg}
 use Rattle.nx_top.specs.declared.guest.Answer.{Answer}
-use Rattle.nx_top.specs.declared.guest.Answer.TheVariants.{Wrote, Ended, Stray}
+use Rattle.nx_top.specs.declared.guest.Answer.TheVariants.{Wrote, Ended}
 use Rattle.nx_top.specs.declared.guest.Guest.{Guest}
-use Rattle.nx_top.specs.Layout.{ram_start}
-use Rattle.nx_top.specs.Guests.{Plan, Remains, IsDone, AfterTurn, IsWithin}
+use Rattle.nx_top.specs.Guests.{Plan, Remains, IsDone, AfterTurn}
 
 abbrev pub After : Plan → Answer → Guest → List ℕ → Type 0
 After plan a g ram = AfterTurn plan a g.machine.regs ram g.console g.writes g.count.used

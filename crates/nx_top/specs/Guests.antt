@@ -1,5 +1,5 @@
 -- A program's run: the calls that are still to come, and what was written so far.
-use Rattle.std.specs.Prelude.{◌≡◌, ℕ, ◌+◌, ◌-◌, ◌<◌, ◌≤◌, List, [], ◌∷◌, ◌++◌, length, take, drop, Option, Some, None}
+use Rattle.std.specs.Prelude.{◌≡◌, ℕ, ◌+◌, ◌-◌, ◌≤◌, List, [], ◌∷◌, ◌++◌, length, take, drop, Option, Some, None}
 use Rattle.std.specs.List.{flat_map}
 use Rattle.nx_base.specs.declared.regs.Regs.{Regs}
 use Rattle.nx_top.specs.declared.guest.Answer.{Answer}

@@ -1,5 +1,5 @@
 -- The flat address map: addresses and sizes in bytes.
-use Rattle.std.specs.Prelude.{ℕ, ◌+◌, ◌*◌, ◌/◌, ◌-◌}
+use Rattle.std.specs.Prelude.{ℕ, ◌+◌, ◌*◌, ◌/◌}
 
 -- where the RAM begins, and how long it is
 abbrev pub ram_start : ℕ

@@ -4,7 +4,7 @@ use Rattle.std.specs.List.{list_all}
 use Rattle.nx_base.specs.declared.regs.Regs.{Regs}
 use Rattle.nx_base.specs.ByteLists.{get_bytes}
 use Rattle.nx_base.specs.Registers.{reg, with_reg}
-use Rattle.nx_base.specs.Views.{Window, View}
+use Rattle.nx_base.specs.Views.{View}
 use Rattle.nx_rv.specs.declared.inst.Inst.{Inst}
 use Rattle.nx_rv.specs.Execution.{ReachesCall}
 use Rattle.nx_top.specs.declared.image.ProgImage.{ProgImage}

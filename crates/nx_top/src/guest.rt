@@ -81,10 +81,10 @@ impl Guest {
         ensures ends { reg self.old.machine.regs 10 ≡ 1 → (result ≡ Ok (Answer.Ended (reg self.old.machine.regs 11 % 256))) × (self.new ≡ self.old) }
         ensures writes { (at count : ℕ) → reg self.old.machine.regs 10 ≡ 16 → reg self.old.machine.regs 11 ≡ 1 → reg self.old.machine.regs 12 ≡ at → reg self.old.machine.regs 13 ≡ count
             → ram_start ≤ at → at - ram_start + count ≤ length ram.now → OnOk result ((result ≡ Ok Answer.Wrote) × (self.new ≡ record self.old {
-          machine = record { regs = with_reg self.old.machine.regs 10 count };
-          console = self.old.console ++ take count (drop (at - ram_start) ram.now);
-          writes = self.old.writes + 1;
-        })) }
+              machine = record { regs = with_reg self.old.machine.regs 10 count };
+              console = self.old.console ++ take count (drop (at - ram_start) ram.now);
+              writes = self.old.writes + 1;
+            })) }
     {
         let value = self.machine.regs.get(11);
         match self.machine.regs.get(10) {

@@ -23,3 +23,6 @@ mod words;
 pub use keeps::words_keep_the_program;
 pub use program::one_program;
 pub use top::nxsim;
+
+#[cfg(test)]
+mod tests;

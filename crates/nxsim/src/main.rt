@@ -1,4 +1,4 @@
-//! The program: the host's files and its standard output, handed to the system.
+//! The program: it hands its words, the host's files and its standard output to the top call.
 #![tactic(auto)]
 
 mod host_files;
@@ -8,17 +8,42 @@ mod tests;
 
 use host_files::HostFiles;
 use host_sink::HostSink;
-use nx_outside::{Files, Sink};
+use nx_top::nxsim;
+use std::alloc::{AllocError, Global};
+use std::env;
 use std::io;
 use std::process::ExitCode;
 
-// Puts the file `hello` to standard output.
+const NO_MEMORY: u8 = 12;
+
+// The words behind the program's name.
+fn words_of(
+    rt: &(impl std::rt::Env + AllocGlobal),
+    alloc: Global,
+) -> Result<Vec<String>, AllocError> {
+    let mut words = Vec::new(alloc);
+    let Ok(args) = env::args(rt) else {
+        return Err(AllocError);
+    };
+    for word in args.skip(1) {
+        words.push(word)?;
+    }
+    Ok(words)
+}
+
 fn main(rt: HostRuntime) -> ExitCode {
+    let alloc = rt.alloc();
+    let Ok(words) = words_of(&rt, alloc) else {
+        return ExitCode::from(NO_MEMORY);
+    };
+    let Ok(texts) = words
+        .iter()
+        .map(|word| word.as_str())
+        .collect::<Vec<&str>>(alloc)
+    else {
+        return ExitCode::from(NO_MEMORY);
+    };
     let mut files = HostFiles::new(&rt);
     let mut out = HostSink::new(io::writer(&rt));
-    let mut bytes = Vec::new(rt.alloc());
-    if files.read("hello", &mut bytes).is_err() || out.put(bytes.as_slice()).is_err() {
-        return ExitCode::from(1);
-    }
-    ExitCode::from(0)
+    ExitCode::from(nxsim(alloc, &texts, &mut files, &mut out))
 }

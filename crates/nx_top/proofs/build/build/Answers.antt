@@ -1,9 +1,9 @@
-use Rattle.std.proofs.Common.{◌≡◌, ℕ, ◌+◌, ◌<◌, ◌≤◌, List, length, ap, ◌∙◌, sym, subst, arith}
+use Rattle.std.proofs.Common.{◌≡◌, ℕ, ◌≤◌, List, length, ap, ◌∙◌, arith}
 use Rattle.nx_top.specs.Layout.{text_start, data_start}
 use Rattle.nx_top.specs.Program.{Program}
-use Rattle.nx_top.specs.Compiled.{main_at, text_of}
+use Rattle.nx_top.specs.Compiled.{text_of}
 use Rattle.nx_top.specs.IsCompiled.{FitsText}
-use Rattle.nx_top.proofs.Sizes.{length_text, main_small}
+use Rattle.nx_top.proofs.Sizes.{length_text}
 use Rattle.nx_top.proofs.BuildLemmas.{main_inside}
 use Rattle.nx_top.proofs.build.build.Goals as goal
 

@@ -1,4 +1,4 @@
-use Rattle.std.proofs.Common.{arith, ◌≡◌, ◌++◌, ◌∙◌, ap, length, get_or}
+use Rattle.std.proofs.Common.{arith, ◌++◌, ◌∙◌, ap, length}
 use Rattle.nx_top.specs.Compiled.{code_bytes, write_code}
 use Rattle.nx_top.proofs.CodeLemmas.{writes_more, writes_done}
 use Rattle.nx_top.proofs.compile.put_writes.Goals as goal

@@ -1,5 +1,4 @@
-use Rattle.std.proofs.Common.{◌≡◌, ◌∙◌, sym, subst, None, Some}
-use Rattle.nx_top.specs.Program.{Program, IsProgram}
+use Rattle.std.proofs.Common.{◌≡◌, subst, None}
 use Rattle.nx_top.specs.declared.program.ReadStop.{ReadStop}
 use Rattle.nx_top.specs.Reading.{Fails, reading}
 use Rattle.nx_top.proofs.Programs.{reading_sound}

@@ -1,4 +1,4 @@
-use Rattle.std.proofs.Common.{◌≡◌, ℕ, ◌+◌, ◌*◌, ◌≤◌, length, ◌∙◌, ap, arith}
+use Rattle.std.proofs.Common.{◌+◌, ◌*◌, length, ◌∙◌, arith}
 use Rattle.nx_top.specs.Program.{Program}
 use Rattle.nx_top.specs.IsCompiled.{FitsText}
 use Rattle.nx_top.proofs.KeepsProgram.{keeps}

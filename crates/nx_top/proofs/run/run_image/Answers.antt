@@ -1,4 +1,4 @@
-use Rattle.std.proofs.Common.{arith, sym, subst, Option, Some, None, ap, ◌∙◌, ◌≡◌, List, ℕ}
+use Rattle.std.proofs.Common.{arith, sym, subst, Option}
 use Rattle.nx_base.specs.declared.regs.Regs.{Regs}
 use Rattle.nx_top.specs.declared.guest.GuestRun.{GuestRun}
 use Rattle.nx_top.specs.Runs.{IsBooted}

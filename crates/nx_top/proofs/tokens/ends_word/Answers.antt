@@ -1,4 +1,4 @@
-use Rattle.std.proofs.Common.{◌≡◌, ◌∙◌, ℕ, suc, ◌-◌, ◌<◌, ◌≤◌, List, [], ◌∷◌, length, get_or, refl, arith}
+use Rattle.std.proofs.Common.{◌≡◌, ◌∙◌, ℕ, suc, ◌-◌, ◌≤◌, List, [], ◌∷◌, length, get_or, refl, arith}
 use Rattle.nx_top.specs.Words.{is_word_byte}
 use Rattle.nx_top.specs.Program.{ends_word}
 use Rattle.nx_top.proofs.tokens.ends_word.Goals as goal

@@ -1,8 +1,7 @@
-use Rattle.std.proofs.Common.{◌≡◌, ℕ, ◌%◌, ◌∙◌, ap, arith, Ok, refl, length, sym}
+use Rattle.std.proofs.Common.{ap, arith, length}
 use Rattle.nx_rv.specs.Execution.{Call}
-use Rattle.nx_top.specs.Guests.{Plan, IsWithin, Remains}
-use Rattle.nx_top.proofs.GuestLemmas.{Comes, Next, Writes, Ends, next_of}
-use Rattle.nx_top.proofs.TurnLemmas.{After, for_each_plan, after_write, after_end, no_call}
+use Rattle.nx_top.proofs.GuestLemmas.{Writes, Ends, next_of}
+use Rattle.nx_top.proofs.TurnLemmas.{for_each_plan, after_write, after_end, no_call}
 use Rattle.nx_top.specs.declared.machine.Stop.TheVariants as stop
 use Rattle.nx_top.proofs.guest.Guest.turn.Goals as goal
 

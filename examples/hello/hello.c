@@ -1,0 +1,1 @@
+int main(void) { write(1, "hello\n", 6); return 0; }
