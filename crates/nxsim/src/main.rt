@@ -10,9 +10,8 @@ use host_files::HostFiles;
 use host_sink::HostSink;
 use nx_top::nxsim;
 use std::alloc::{AllocError, Global};
-use std::env;
-use std::io;
 use std::process::ExitCode;
+use std::{env, io};
 
 const NO_MEMORY: u8 = 12;
 
