@@ -1,2 +1,4 @@
 pub mod ByteLemmas
+pub mod Puts
 pub mod RegisterLemmas
+pub mod Stores

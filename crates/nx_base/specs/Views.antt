@@ -1,5 +1,5 @@
 -- What a program can read, write and run, as plain data.
-use Rattle.std.specs.Prelude.{ℕ, ◌+◌, ◌-◌, Bool, ◌&&◌, nat_le, if◌then◌else◌, List, [], ◌∷◌, length, Option, Some, None, Result, Ok, Err}
+use Rattle.std.specs.Prelude.{ℕ, ◌+◌, ◌-◌, ◌≤◌, ◌⊎◌, Bool, ◌&&◌, nat_le, if◌then◌else◌, List, [], ◌∷◌, length, Option, Some, None, Result, Ok, Err}
 use Rattle.nx_base.specs.ByteLists.{get_bytes, put_bytes, from_le, to_le}
 
 -- bytes from an address on, and what may be done with them
@@ -58,3 +58,7 @@ view_or v (Some ws) cause = Ok (record v { windows = ws })
 -- the view with the low n bytes of a number put at an address, or the cause of a trap: 7 access fault, 15 page fault
 unfoldable pub store_bytes : View → ℕ → ℕ → ℕ → Result View ℕ
 store_bytes v at n x = view_or v (put_in v.windows at (to_le n x)) (if v.is_paged then 15 else 7)
+
+-- the n bytes at one address and the m at another share none
+abbrev pub AreApart : ℕ → ℕ → ℕ → ℕ → Type 0
+AreApart a n b m = (b + m ≤ a) ⊎ (a + n ≤ b)

@@ -1,0 +1,9 @@
+use thiserror::Error;
+
+/// There are fewer free frames than are needed. Both are numbers of frames of 4096 bytes.
+#[derive(Clone, Copy, Debug, PartialEq, Eq, Error)]
+#[error("{need} frames are needed and {free} are free")]
+pub struct TooFew {
+    pub need: u32,
+    pub free: u32,
+}

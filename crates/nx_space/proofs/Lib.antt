@@ -1,0 +1,9 @@
+pub mod Bytes
+pub mod Views
+pub mod Stores
+pub mod Goods
+pub mod Tellings
+pub mod FlatLemmas
+pub mod FlatStarts
+pub mod Stays
+pub mod Groups
