@@ -1,0 +1,23 @@
+use Rattle.std.proofs.Common.{◌<◌, length, ◌∙◌, sym, rules, arith}
+use Rattle.nx_config.specs.Line.{before_mark, says}
+use Rattle.nx_config.specs.Reading.{Follows, IsRefused}
+use Rattle.nx_config.proofs.Lines.{faults_behind, values_behind, refused_here}
+use Rattle.nx_config.proofs.read.read_lines.Goals as goal
+
+pub returns-in-Err : goal.returns-in-Err
+returns-in-Err c =
+    let rest = c.loop-rest.rest.now in
+    let some : 0 < length rest = search rules in
+    let refused : IsRefused c.in-Err.stop (says (before_mark 10 rest)) c.loop-rest.table = rw (sym c.cut.ensures.before) c.in-Err.ensures in
+    rw (c.fault.ensures) (refused_here c.loop-rest.line rest c.args.bytes.now c.loop-rest.table c.in-Err.stop some refused c.loop-rest.invariant.1)
+
+pub loop-rest-preserved : goal.loop-rest-preserved
+loop-rest-preserved c =
+    let rest = c.loop-rest.rest.now in
+    let some : 0 < length rest = search rules in
+    let shorter = c.cut.ensures.shorter some in
+    let follows : Follows c.loop-rest.line (says (before_mark 10 rest)) c.loop-rest.table c.take_line.new.table = rw (sym c.cut.ensures.before) c.in-Ok.ensures in (
+      omega arith,
+      rw (c.cut.ensures.behind) (faults_behind c.loop-rest.line rest c.loop-rest.table c.take_line.new.table some follows ∙ c.loop-rest.invariant.1),
+      λ name. rw (c.cut.ensures.behind) (values_behind c.loop-rest.line rest c.loop-rest.table c.take_line.new.table some follows name ∙ c.loop-rest.invariant.2 name),
+    )

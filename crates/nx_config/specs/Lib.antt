@@ -1,0 +1,9 @@
+pub mod Builds
+pub mod Limits
+pub mod Line
+pub mod Lines
+pub mod Numbers
+pub mod Quoted
+pub mod Reading
+pub mod Settings
+pub mod Tables
