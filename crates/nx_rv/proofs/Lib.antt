@@ -1,5 +1,7 @@
 pub mod Bits
-pub mod Words
+pub mod Groups
+pub mod Halts
 pub mod Rows
 pub mod Stretch
+pub mod Words
 pub mod Turns

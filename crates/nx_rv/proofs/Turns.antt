@@ -4,7 +4,8 @@ use Rattle.std.specs.Prelude.{ℤ, pos, ◌==◌, if◌then◌else◌}
 use Rattle.std.proofs.lemmas.Bool.{cases_eq}
 use Rattle.std.proofs.lemmas.Bool.Decides.{nat_tests}
 use Rattle.nx_base.specs.declared.regs.Regs.{Regs}
-use Rattle.nx_base.specs.declared.kinds.AluOp.{AluOp}
+use Rattle.nx_base.specs.declared.kinds.AluOp.TheVariants as op
+use Rattle.nx_base.specs.Arithmetic.{alu_of}
 use Rattle.nx_base.specs.Registers.{reg, with_reg}
 use Rattle.nx_base.specs.Views.{View, fetch_word}
 use Rattle.nx_base.proofs.RegisterLemmas.{reg-zero, reg-with_same, reg-with_other, length-with_reg, pc-with_reg, with_reg-zero}
@@ -104,9 +105,7 @@ holds_as r pc t u e s = record { pc_is = s.pc_is; aligned = s.aligned; size = s.
 abbrev pub temps_after : Inst → (ℕ → ℕ) → ℕ → ℕ
 temps_after (Lui rd imm) t = put t rd imm
 temps_after (OpImm o rd rs1 imm) t = put t rd (plus (t rs1) imm)
-temps_after (Jal rd offset) t = t
-temps_after (Jalr rd rs1 imm) t = t
-temps_after Ecall t = t
+temps_after _ t = t
 
 abbrev pub temps_in : List Inst → (ℕ → ℕ) → ℕ → ℕ
 temps_in [] t = t
@@ -115,10 +114,8 @@ temps_in (i ∷ is) t = temps_in is (temps_after i t)
 -- an instruction that writes a register other than 0 and goes on to the next
 abbrev pub IsStraight : Inst → Type 0
 IsStraight (Lui rd imm) = (rd == 0) ≡ false
-IsStraight (OpImm o rd rs1 imm) = (rd == 0) ≡ false
-IsStraight (Jal rd offset) = ⊥
-IsStraight (Jalr rd rs1 imm) = ⊥
-IsStraight Ecall = ⊥
+IsStraight (OpImm op.Add rd rs1 imm) = (rd == 0) ≡ false
+IsStraight _ = ⊥
 
 abbrev pub AreStraight : List Inst → Type 0
 AreStraight [] = Unit {0}
@@ -134,9 +131,9 @@ execute_lui : (r : Regs) (v : View) (rd imm : ℕ) → execute (Lui rd imm) r v 
 unfolding execute
 execute_lui r v rd imm = refl
 
-execute_add : (r : Regs) (v : View) (t : ℕ → ℕ) (pc : ℕ) (o : AluOp) (rd rs1 : ℕ) (imm : ℤ) → IsAt r pc t → execute (OpImm o rd rs1 imm) r v ≡ Goes (advance (with_reg r rd (plus (t rs1) imm))) v
-unfolding execute
-execute_add r v t pc o rd rs1 imm s = ap (λ n. Goes (advance (with_reg r rd (plus n imm))) v) (s.holds rs1)
+execute_add : (r : Regs) (v : View) (t : ℕ → ℕ) (pc rd rs1 : ℕ) (imm : ℤ) → IsAt r pc t → execute (OpImm op.Add rd rs1 imm) r v ≡ Goes (advance (with_reg r rd (plus (t rs1) imm))) v
+unfolding execute alu_of plus
+execute_add r v t pc rd rs1 imm s = ap (λ n. Goes (advance (with_reg r rd (plus n imm))) v) (s.holds rs1)
 
 pub one_went : (r : Regs) (v : View) (pc : ℕ) (t : ℕ → ℕ) (i : Inst) → pc + 4 < 2 ^ 32 → IsHere v pc i → IsStraight i → IsAt r pc t → Went 1 r v (pc + 4) (temps_after i t)
 one_went r v pc t (Lui rd imm) fits h z s = record {
@@ -144,14 +141,12 @@ one_went r v pc t (Lui rd imm) fits h z s = record {
   leads = goes r v _ (turn_at r v pc t (Lui rd imm) s h ∙ execute_lui r v rd imm);
   is_at = advanced _ pc _ fits (wrote r pc t rd imm z h.in_range.0 s);
 }
-one_went r v pc t (OpImm o rd rs1 imm) fits h z s = record {
+one_went r v pc t (OpImm op.Add rd rs1 imm) fits h z s = record {
   regs = advance (with_reg r rd (plus (t rs1) imm));
-  leads = goes r v _ (turn_at r v pc t (OpImm o rd rs1 imm) s h ∙ execute_add r v t pc o rd rs1 imm s);
-  is_at = advanced _ pc _ fits (wrote r pc t rd (plus (t rs1) imm) z h.in_range.1 s);
+  leads = goes r v _ (turn_at r v pc t (OpImm op.Add rd rs1 imm) s h ∙ execute_add r v t pc rd rs1 imm s);
+  is_at = advanced _ pc _ fits (wrote r pc t rd (plus (t rs1) imm) z h.in_range.0 s);
 }
-one_went r v pc t (Jal rd offset) fits h z s = absurd z
-one_went r v pc t (Jalr rd rs1 imm) fits h z s = absurd z
-one_went r v pc t Ecall fits h z s = absurd z
+one_went r v pc t _ fits h z s = absurd z
 
 pub went_then : (m n k : ℕ) (r : Regs) (v : View) (pc pc' : ℕ) (t t' : ℕ → ℕ) → k ≡ m + n → (a : Went m r v pc t) → Went n a.regs v pc' t' → Went k r v pc' t'
 went_then m n k r v pc pc' t t' e a b = record {

@@ -1,11 +1,12 @@
 -- What an instruction does to the registers, the pc and a view, and what a stretch of them does.
-use Rattle.std.specs.Prelude.{◌≡◌, ℕ, zero, suc, ◌+◌, ◌-◌, ◌%◌, ◌^◌, ◌==◌, if◌then◌else◌, Option, Some, None, Result, Ok, Err, ℤ}
+use Rattle.std.specs.Prelude.{◌≡◌, ℕ, zero, suc, ◌+◌, ◌-◌, ◌*◌, ◌%◌, ◌^◌, ◌==◌, ◌&&◌, nat_le, Bool, if◌then◌else◌, Option, Some, None, Result, Ok, Err, ℤ}
 use Rattle.std.specs.Int.{w32, cast_unsigned}
 use Rattle.nx_base.specs.declared.regs.Regs.{Regs}
+use Rattle.nx_base.specs.Arithmetic.{alu_of, taken_of}
 use Rattle.nx_base.specs.Registers.{reg, with_reg}
-use Rattle.nx_base.specs.Views.{View, fetch_word}
+use Rattle.nx_base.specs.Views.{View, fetch_word, load_bytes, store_bytes}
 use Rattle.nx_rv.specs.declared.inst.Inst.{Inst}
-use Rattle.nx_rv.specs.declared.inst.Inst.TheVariants.{Lui, Jal, Jalr, OpImm, Ecall}
+use Rattle.nx_rv.specs.declared.inst.Inst.TheVariants.{Lui, Auipc, Jal, Jalr, Branch, Load, Store, OpImm, Op, Fence, Ecall, Ebreak}
 use Rattle.nx_rv.specs.Table.{decode_of}
 
 -- a sum that wraps
@@ -29,13 +30,38 @@ pub data Turn : Type 0 where
 unfoldable pub linked : ℕ → ℕ → Regs → View → Turn
 linked rd to r v = if to % 4 == 0 then Goes (jump (with_reg r rd ((r.pc + 4) % 2 ^ 32)) to) v else Traps 0 r v
 
--- one instruction: a row each, in the manual's order
+-- a branch: where it is taken, to its target, or a misaligned one
+unfoldable pub branched : Bool → ℕ → Regs → View → Turn
+branched taken to r v = if taken then (if to % 4 == 0 then Goes (jump r to) v else Traps 0 r v) else Goes (advance r) v
+
+-- what a load of some bytes puts into its register: a signed number is extended
+unfoldable pub widened : ℕ → Bool → ℕ → ℕ
+widened width signed n = if signed && nat_le (2 ^ (8 * width - 1)) n then n + (2 ^ 32 - 2 ^ (8 * width)) else n
+
+unfoldable pub loaded : Result ℕ ℕ → ℕ → Bool → ℕ → Regs → View → Turn
+loaded (Ok n) width signed rd r v = Goes (advance (with_reg r rd (widened width signed n))) v
+loaded (Err cause) width signed rd r v = Traps cause r v
+
+unfoldable pub stored : Result View ℕ → Regs → View → Turn
+stored (Ok new) r v = Goes (advance r) new
+stored (Err cause) r v = Traps cause r v
+
+-- one instruction: the misaligned address of a load has cause 4, of a store 6, before the view is asked
 unfoldable pub execute : Inst → Regs → View → Turn
 execute (Lui rd imm) r v = Goes (advance (with_reg r rd imm)) v
+execute (Auipc rd imm) r v = Goes (advance (with_reg r rd ((r.pc + imm) % 2 ^ 32))) v
 execute (Jal rd offset) r v = linked rd (plus r.pc offset) r v
 execute (Jalr rd rs1 imm) r v = linked rd (plus (reg r rs1) imm - plus (reg r rs1) imm % 2) r v
-execute (OpImm o rd rs1 imm) r v = Goes (advance (with_reg r rd (plus (reg r rs1) imm))) v
+execute (Branch c rs1 rs2 offset) r v = branched (taken_of c (reg r rs1) (reg r rs2)) (plus r.pc offset) r v
+execute (Load width signed rd rs1 imm) r v =
+    if plus (reg r rs1) imm % width == 0 then loaded (load_bytes v (plus (reg r rs1) imm) width) width signed rd r v else Traps 4 r v
+execute (Store width rs1 rs2 imm) r v =
+    if plus (reg r rs1) imm % width == 0 then stored (store_bytes v (plus (reg r rs1) imm) width (reg r rs2)) r v else Traps 6 r v
+execute (OpImm o rd rs1 imm) r v = Goes (advance (with_reg r rd (alu_of o (reg r rs1) (cast_unsigned w32 imm)))) v
+execute (Op o rd rs1 rs2) r v = Goes (advance (with_reg r rd (alu_of o (reg r rs1) (reg r rs2)))) v
+execute (Fence rd rs1 imm) r v = Goes (advance r) v
 execute Ecall r v = Calls (advance r) v
+execute Ebreak r v = Traps 3 r v
 
 -- an illegal word has cause 2
 unfoldable pub decoded : Option Inst → Regs → View → Turn
@@ -49,6 +75,12 @@ fetched (Err cause) r v = Traps cause r v
 -- the instruction at the pc
 unfoldable pub turn : Regs → View → Turn
 turn r v = if r.pc % 4 == 0 then fetched (fetch_word v r.pc) r v else Traps 0 r v
+
+-- where a turn doesn't go on, nothing has changed but the pc of a call, which is behind it
+abbrev pub HaltsInPlace : Regs → View → Turn → Type 0
+HaltsInPlace r v (Goes r' v') = Unit {0}
+HaltsInPlace r v (Calls r' v') = (r' ≡ advance r) × (v' ≡ v)
+HaltsInPlace r v (Traps cause r' v') = (r' ≡ r) × (v' ≡ v)
 
 -- why a stretch ends
 pub data Halt : Type 0 where

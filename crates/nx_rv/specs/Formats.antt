@@ -57,3 +57,17 @@ imm_j w = extended 1048576 (2 * (rs2_of w / 2 + 16 * (funct7 w % 64)) + 2048 * (
 
 unfoldable pub pack_j : ℕ → ℕ → ℕ → ℕ
 pack_j op rd n = pack op rd (n / 4096 % 8) (n / 4096 / 8 % 32) (2 * (n / 2 % 16) + n / 2048 % 2) (n / 32 % 64 + 64 * (n / 1048576))
+
+-- S: bits 4 to 0 stand in rd, 11 to 5 in funct7
+unfoldable pub imm_s : ℕ → ℤ
+imm_s w = extended 2048 (rd_of w + 32 * funct7 w)
+
+unfoldable pub pack_s : ℕ → ℕ → ℕ → ℕ → ℕ → ℕ
+pack_s op f3 rs1 rs2 n = pack op (n % 32) f3 rs1 rs2 (n / 32)
+
+-- B: bits 4 to 1 and 11 stand in rd, 10 to 5 and 12 in funct7
+unfoldable pub imm_b : ℕ → ℤ
+imm_b w = extended 4096 (2 * (rd_of w / 2) + 32 * (funct7 w % 64) + 2048 * (rd_of w % 2) + 4096 * (funct7 w / 64))
+
+unfoldable pub pack_b : ℕ → ℕ → ℕ → ℕ → ℕ → ℕ
+pack_b op f3 rs1 rs2 n = pack op (2 * (n / 2 % 16) + n / 2048 % 2) f3 rs1 rs2 (n / 32 % 64 + 64 * (n / 4096))

@@ -1,3 +1,4 @@
 pub mod Formats
+pub mod Codes
 pub mod Table
 pub mod Execution

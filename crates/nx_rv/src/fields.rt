@@ -1,6 +1,6 @@
 ghost use Rattle.std.specs.Prelude.{◌≡◌, ◌+◌, ◌*◌, ◌%◌, ◌^◌, ◌<◌, ◌≤◌};
 ghost use Rattle.std.specs.Int.{w32, cast_unsigned};
-ghost use Rattle.nx_rv.specs.Formats.{opcode, rd_of, funct3, rs1_of, rs2_of, funct7, extended, IsWithin, imm_i, imm_u, imm_j, pack, pack_i, pack_u, pack_j};
+ghost use Rattle.nx_rv.specs.Formats.{opcode, rd_of, funct3, rs1_of, rs2_of, funct7, extended, IsWithin, imm_i, imm_s, imm_b, imm_u, imm_j, pack, pack_i, pack_s, pack_b, pack_u, pack_j};
 
 /// Bits 6 to 0. RISC-V Unprivileged ISA, RV32I 2.1 section 2.2.
 #[tactic(auto, unfolding(crate::specs::Formats::opcode))]
@@ -61,8 +61,7 @@ pub fn funct7(word: u32) -> u8
 fn extend(half: u32, n: u32) -> i32
     requires small { half ≤ 1048576 }
     requires below { n < 2 * half }
-    ensures value { result ≡ extended half n }
-    ensures within { IsWithin half result }
+    ensures { result ≡ extended half n }
 {
     if n < half {
         n.cast_signed()
@@ -74,17 +73,33 @@ fn extend(half: u32, n: u32) -> i32
 /// The immediate of format I. RISC-V Unprivileged ISA, RV32I 2.1 section 2.3.
 #[tactic(auto, unfolding(crate::specs::Formats::imm_i))]
 pub fn imm_i(word: u32) -> i32
-    ensures value { result ≡ imm_i word }
-    ensures within { IsWithin 2048 result }
+    ensures { result ≡ imm_i word }
 {
     extend(2048, rs2(word) as u32 + 32 * funct7(word) as u32)
+}
+
+/// The immediate of format S.
+#[tactic(auto, unfolding(crate::specs::Formats::imm_s))]
+pub fn imm_s(word: u32) -> i32
+    ensures { result ≡ imm_s word }
+{
+    extend(2048, rd(word) as u32 + 32 * funct7(word) as u32)
+}
+
+/// The immediate of format B.
+#[tactic(auto, unfolding(crate::specs::Formats::imm_b))]
+pub fn imm_b(word: u32) -> i32
+    ensures { result ≡ imm_b word }
+{
+    let (low, high) = (rd(word) as u32, funct7(word) as u32);
+    let middle = 2 * (low / 2) + 32 * (high % 64);
+    extend(4096, middle + 2048 * (low % 2) + 4096 * (high / 64))
 }
 
 /// The immediate of format U.
 #[tactic(auto, unfolding(crate::specs::Formats::imm_u))]
 pub fn imm_u(word: u32) -> u32
-    ensures value { result ≡ imm_u word }
-    ensures low_bits_are_0 { result % 4096 ≡ 0 }
+    ensures { result ≡ imm_u word }
 {
     word / 4096 * 4096
 }
@@ -92,9 +107,7 @@ pub fn imm_u(word: u32) -> u32
 /// The immediate of format J.
 #[tactic(auto, unfolding(crate::specs::Formats::imm_j))]
 pub fn imm_j(word: u32) -> i32
-    ensures value { result ≡ imm_j word }
-    ensures within { IsWithin 1048576 result }
-    ensures even { cast_unsigned w32 result % 2 ≡ 0 }
+    ensures { result ≡ imm_j word }
 {
     let (middle, high) = (rs2(word) as u32, funct7(word) as u32);
     let low = 2 * (middle / 2 + 16 * (high % 64)) + 2048 * (middle % 2);
@@ -116,6 +129,26 @@ fn pack(code: u32, rd: u32, f3: u32, rs1: u32, rs2: u32, f7: u32) -> u32
     code + 128 * (rd + 32 * (f3 + 8 * (rs1 + 32 * (rs2 + 32 * f7))))
 }
 
+/// A word of format R.
+pub fn pack_r(code: u8, rd: u8, f3: u8, rs1: u8, rs2: u8, f7: u8) -> u32
+    requires code_fits { code < 128 }
+    requires rd_fits { rd < 32 }
+    requires f3_fits { f3 < 8 }
+    requires rs1_fits { rs1 < 32 }
+    requires rs2_fits { rs2 < 32 }
+    requires f7_fits { f7 < 128 }
+    ensures { result ≡ pack code rd f3 rs1 rs2 f7 }
+{
+    pack(
+        code as u32,
+        rd as u32,
+        f3 as u32,
+        rs1 as u32,
+        rs2 as u32,
+        f7 as u32,
+    )
+}
+
 /// A word of format I, with the low 12 bits of its immediate.
 #[tactic(auto, unfolding(crate::specs::Formats::pack_i))]
 pub fn pack_i(code: u8, rd: u8, f3: u8, rs1: u8, n: u32) -> u32
@@ -133,6 +166,46 @@ pub fn pack_i(code: u8, rd: u8, f3: u8, rs1: u8, n: u32) -> u32
         rs1 as u32,
         n % 32,
         n / 32,
+    )
+}
+
+/// A word of format S, with the low 12 bits of its immediate.
+#[tactic(auto, unfolding(crate::specs::Formats::pack_s))]
+pub fn pack_s(code: u8, f3: u8, rs1: u8, rs2: u8, n: u32) -> u32
+    requires code_fits { code < 128 }
+    requires f3_fits { f3 < 8 }
+    requires rs1_fits { rs1 < 32 }
+    requires rs2_fits { rs2 < 32 }
+    requires imm_fits { n < 4096 }
+    ensures { result ≡ pack_s code f3 rs1 rs2 n }
+{
+    pack(
+        code as u32,
+        n % 32,
+        f3 as u32,
+        rs1 as u32,
+        rs2 as u32,
+        n / 32,
+    )
+}
+
+/// A word of format B, with the low 13 bits of its immediate.
+#[tactic(auto, unfolding(crate::specs::Formats::pack_b))]
+pub fn pack_b(code: u8, f3: u8, rs1: u8, rs2: u8, n: u32) -> u32
+    requires code_fits { code < 128 }
+    requires f3_fits { f3 < 8 }
+    requires rs1_fits { rs1 < 32 }
+    requires rs2_fits { rs2 < 32 }
+    requires imm_fits { n < 8192 }
+    ensures { result ≡ pack_b code f3 rs1 rs2 n }
+{
+    pack(
+        code as u32,
+        2 * (n / 2 % 16) + n / 2048 % 2,
+        f3 as u32,
+        rs1 as u32,
+        rs2 as u32,
+        n / 32 % 64 + 64 * (n / 4096),
     )
 }
 

@@ -1,5 +1,8 @@
 ghost use Rattle.std.specs.Prelude.{◌≡◌, ℕ, ◌^◌, ◌<◌, Some};
+ghost use Rattle.nx_base.specs.declared.regs.Regs.{Regs};
+ghost use Rattle.nx_base.specs.Views.{View};
 ghost use Rattle.nx_rv.specs.declared.inst.Inst.{Inst};
+ghost use Rattle.nx_rv.specs.Execution.{HaltsInPlace, turn};
 ghost use Rattle.nx_rv.specs.Table.{Row, IsInRange, decode_of, encode_of};
 
 /// A law: a word that decodes is the one that its instruction encodes to.
@@ -16,4 +19,10 @@ pub fn an_encoded_instruction_decodes_to_itself()
 pub fn the_table_is_one_to_one()
     ensures instruction { (w : ℕ) (i j : Inst) → Row w i → Row w j → i ≡ j }
     ensures word { (v w : ℕ) (i : Inst) → Row v i → Row w i → v ≡ w }
+{}
+
+/// A law: an instruction that traps leaves the registers, the pc and the view as they were, and so
+/// does a call, but that the pc is behind it.
+pub fn an_instruction_halts_in_place()
+    ensures { (r : Regs) (v : View) → HaltsInPlace r v (turn r v) }
 {}

@@ -1,5 +1,5 @@
 //! Instruction words of RV32IM and what they mean: the table that decoding, encoding and execution
-//! cite, with a row for each instruction that is built so far.
+//! cite, with a row for each instruction in the manual's order.
 #![tactic(auto)]
 
 mod decoding;
@@ -13,7 +13,7 @@ pub use encoding::encode;
 pub use inst::Inst;
 pub use laws::{
     a_decoded_word_encodes_to_itself, an_encoded_instruction_decodes_to_itself,
-    the_table_is_one_to_one,
+    an_instruction_halts_in_place, the_table_is_one_to_one,
 };
 
 #[cfg(test)]

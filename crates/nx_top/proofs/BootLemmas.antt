@@ -1,27 +1,55 @@
--- A text between zeros is a booted RAM.
-use Rattle.std.proofs.Common.{◌≡◌, ℕ, zero, suc, ◌+◌, List, ◌++◌, length, replicate, refl, ap, arith, length-append}
-use Rattle.std.proofs.lemmas.List.{length-replicate}
-use Rattle.nx_top.specs.declared.image.ProgImage.{ProgImage}
+-- A RAM of zeros with a text put in its place is booted, and stays so when a stack is set to zeros.
+use Rattle.std.proofs.Common.{◌≡◌, ℕ, zero, suc, ◌+◌, ◌-◌, ◌≤◌, ◌⊎◌, List, length, replicate, sym, ap, ◌∙◌, arith, ⊎_elim, inl, inr}
+use Rattle.std.specs.Prelude.{slice_index, slice_set}
+use Rattle.std.proofs.lemmas.Bool.{cases_eq, cases_lt}
+use Rattle.std.proofs.lemmas.List.{length-replicate, get_or-replicate, get_or_past, get_or-set_same, get_or-set_other, length-set}
+use Rattle.nx_base.specs.ByteLists.{get_bytes, put_bytes}
+use Rattle.nx_base.proofs.Puts.{length-put_bytes, get-put_bytes_other, get_bytes-put_bytes, get_bytes-put_bytes_other}
+use Rattle.nx_ram.specs.declared.prog_image.ProgImage.{ProgImage}
 use Rattle.nx_top.specs.Layout.{ram_start, ram_bytes}
-use Rattle.nx_top.specs.Runs.{AreZeros, IsBooted}
+use Rattle.nx_top.specs.Runs.{IsBooted}
 
-zeros : (n : ℕ) → AreZeros (replicate n 0)
-zeros zero = refl
-zeros (suc n) = zeros n
+-- each byte of zeros is 0, and so is what is read behind them
+zero_byte : (n i : ℕ) → slice_index (replicate n 0) i ≡ 0
+zero_byte n i =
+    let l = length-replicate {A = ℕ} n 0 in
+    ⊎_elim (λ h. get_or-replicate n i 0 0 h) (λ h. get_or_past (replicate n 0) i 0 (omega (arith, l, h))) (cases_lt i n)
 
-pub booted : (image : ProgImage) (ram : List ℕ) (m n : ℕ) → ram ≡ replicate m 0 ++ image.text ++ replicate n 0 → ram_start + m ≡ image.text_at → m + length image.text + n ≡ ram_bytes → IsBooted image ram
-booted image ram m n e at all =
-    let a = length-replicate {A = ℕ} m 0 in
-    let b = length-replicate {A = ℕ} n 0 in
-    let c = length-append (replicate m 0 ++ image.text) (replicate n 0) in
-    let d = length-append (replicate m 0) image.text in
-    let f = ap length e in
+-- a RAM of zeros with the text put in its place is booted
+pub booted_put : (image : ProgImage) (size k : ℕ) → ram_start ≤ image.text_at → k ≡ image.text_at - ram_start → k + length image.text ≤ size → size ≡ ram_bytes → IsBooted image (put_bytes (replicate size 0) k image.text)
+booted_put image size k low e fits whole =
+    let l = length-replicate {A = ℕ} size 0 in
+    let m = length-put_bytes (replicate size 0) k image.text in
     record {
-      before = replicate m 0;
-      behind = replicate n 0;
-      ram_is = e;
-      text_there = omega arith;
-      whole = omega arith;
-      zeros_before = zeros m;
-      zeros_behind = zeros n;
+      whole = m ∙ l ∙ whole;
+      from = low;
+      to = omega (arith, l, m, e, fits);
+      text = ap (λ j. get_bytes (put_bytes (replicate size 0) k image.text) j (length image.text)) (sym e) ∙ get_bytes-put_bytes (replicate size 0) k image.text (omega (arith, l, fits));
+      zeros = λ i out.
+          get-put_bytes_other (replicate size 0) k image.text i (⊎_elim (λ h. inl (omega (arith, e, h))) (λ h. inr (omega (arith, e, h))) out)
+          ∙ zero_byte size i;
+    }
+
+-- a byte that is 0 stays 0 when zeros are put anywhere
+stays_zero : (n : ℕ) (bs : List ℕ) (at i : ℕ) → at + n ≤ length bs → slice_index bs i ≡ 0 → slice_index (put_bytes bs at (replicate n 0)) i ≡ 0
+unfolding put_bytes
+stays_zero zero bs at i fits h = h
+stays_zero (suc n) bs at i fits h =
+    let l = length-set bs at 0 in
+    let one : slice_index (slice_set bs at 0) i ≡ 0 =
+    ⊎_elim (λ e. ap (slice_index (slice_set bs at 0)) e ∙ get_or-set_same bs at 0 0 (omega arith)) (λ ne. get_or-set_other bs at i 0 0 (λ e. ne (omega arith)) ∙ h) (cases_eq i at) in
+    stays_zero n (slice_set bs at 0) (at + 1) i (omega (arith, l)) one
+
+-- zeros put beside the text leave a RAM booted
+pub booted_zeroed : (image : ProgImage) (ram : List ℕ) → IsBooted image ram → (at n : ℕ) → at + n ≤ length ram → (at + n ≤ image.text_at - ram_start) ⊎ (image.text_at - ram_start + length image.text ≤ at) → IsBooted image (put_bytes ram at (replicate n 0))
+booted_zeroed image ram b at n fits apart =
+    let k = image.text_at - ram_start in
+    let l = length-replicate {A = ℕ} n 0 in
+    let m = length-put_bytes ram at (replicate n 0) in
+    record {
+      whole = m ∙ b.whole;
+      from = b.from;
+      to = omega (arith, m, b.to);
+      text = get_bytes-put_bytes_other ram at (replicate n 0) k (length image.text) (⊎_elim (λ h. inr (omega (arith, l, h))) (λ h. inl h) apart) ∙ b.text;
+      zeros = λ i out. stays_zero n ram at i fits (b.zeros i out);
     }

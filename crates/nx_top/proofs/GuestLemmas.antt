@@ -1,10 +1,10 @@
 -- What a planned run does up to its next call.
-use Rattle.std.proofs.Common.{◌≡◌, ℕ, zero, suc, ◌+◌, ◌-◌, ◌≤◌, List, [], ◌∷◌, ◌++◌, length, refl, sym, ap, ◌∙◌, subst, arith, append_assoc, append-nil}
+use Rattle.std.proofs.Common.{◌≡◌, ℕ, zero, suc, ◌+◌, ◌-◌, ◌^◌, ◌≤◌, List, [], ◌∷◌, ◌++◌, length, refl, sym, ap, ◌∙◌, subst, arith, append_assoc, append-nil}
 use Rattle.nx_base.specs.declared.regs.Regs.{Regs}
 use Rattle.nx_base.specs.Registers.{reg, with_reg}
 use Rattle.nx_base.specs.Views.{View}
 use Rattle.nx_rv.specs.Execution.{Turn, Goes, Calls, Traps, Halt, Call, End, turn, after, stretch, ReachesCall}
-use Rattle.nx_top.specs.Runs.{flat_view, Makes, calls_of}
+use Rattle.nx_top.specs.Runs.{Makes, calls_of}
 use Rattle.nx_top.specs.Guests.{Plan, joined, LiesAt, LieAt, Remains, IsDone, IsWithin}
 
 abbrev end_at : Regs → View → ℕ → Halt → End
@@ -44,30 +44,32 @@ ends_in m n left h r r' r1 v v' v1 le e c =
     record { halt = ap (λ (x : End). x.halt) f; regs = ap (λ (x : End). x.regs) f; view = ap (λ (x : End). x.view) f; rest = omega arith }
 
 -- the next call of a planned run: a write, with what remains behind it, or the end
-pub data Next (plan : Plan) (r : Regs) (ram console : List ℕ) (writes used : ℕ) : Type 0 where
-  Writes : (string : List ℕ) (at : ℕ) → reg r 10 ≡ 16 → reg r 11 ≡ 1 → reg r 12 ≡ at → reg r 13 ≡ length string → LiesAt ram string at
-      → Remains plan (with_reg r 10 (length string)) ram (console ++ string) (writes + 1) used → Next plan r ram console writes used
-  Ends : reg r 10 ≡ 1 → reg r 11 ≡ plan.status → IsDone plan plan.status console writes used → Next plan r ram console writes used
+pub data Next (plan : Plan) (r : Regs) (v : View) (console : List ℕ) (writes used : ℕ) : Type 0 where
+  Writes : (string : List ℕ) (at : ℕ) → reg r 10 ≡ 16 → reg r 11 ≡ 1 → reg r 12 ≡ at → reg r 13 ≡ length string → at + length string ≤ 2 ^ 32 → LiesAt v string at
+      → Remains plan (with_reg r 10 (length string)) v (console ++ string) (writes + 1) used → Next plan r v console writes used
+  Ends : reg r 10 ≡ 1 → reg r 11 ≡ plan.status → IsDone plan plan.status console writes used → Next plan r v console writes used
 
-pub record Comes (h : Halt) (plan : Plan) (r : Regs) (ram console : List ℕ) (writes used : ℕ) : Type 0 where
+pub record Comes (h : Halt) (plan : Plan) (r : Regs) (v new : View) (console : List ℕ) (writes used : ℕ) : Type 0 where
   pub halt : h ≡ Call
-  pub next : Next plan r ram console writes used
+  pub view : new ≡ v
+  pub next : Next plan r v console writes used
 
 wrote : (string : List ℕ) (strings : List (List ℕ)) (console all : List ℕ) → console ++ joined (string ∷ strings) ≡ all → (console ++ string) ++ joined strings ≡ all
 wrote string strings console all e = append_assoc console string (joined strings) ∙ e
 
 -- one call of the plan, from where it stands
-next_from : (plan : Plan) (strings : List (List ℕ)) (places : List ℕ) (r r' : Regs) (ram console : List ℕ) (writes used limit used' instructions : ℕ) (h : Halt)
-    → used ≤ limit → used' ≤ limit → plan.instructions ≤ limit → end_at r' (flat_view ram) (limit - used') h ≡ stretch (limit - used) r (flat_view ram)
-    → Makes (calls_of strings places plan.status) r (flat_view ram) instructions → LieAt ram strings places → used + instructions ≡ plan.instructions
-    → console ++ joined strings ≡ joined plan.strings → writes + length strings ≡ length plan.strings → Comes h plan r' ram console writes used'
-next_from plan [] [] r r' ram console writes used limit used' instructions h a b f e m lie total written counted =
+next_from : (plan : Plan) (strings : List (List ℕ)) (places : List ℕ) (r r' : Regs) (v new : View) (console : List ℕ) (writes used limit used' instructions : ℕ) (h : Halt)
+    → used ≤ limit → used' ≤ limit → plan.instructions ≤ limit → end_at r' new (limit - used') h ≡ stretch (limit - used) r v
+    → Makes (calls_of strings places plan.status) r v instructions → LieAt v strings places → used + instructions ≡ plan.instructions
+    → console ++ joined strings ≡ joined plan.strings → writes + length strings ≡ length plan.strings → Comes h plan r' v new console writes used'
+next_from plan [] [] r r' v new console writes used limit used' instructions h a b f e m lie total written counted =
     let none : m.rest ≡ 0 = m.on in
     let le : m.made ≤ limit - used = omega (arith, m.sum) in
-    let s = ends_in m.made (limit - used) (limit - used') h r r' m.regs (flat_view ram) (flat_view ram) m.view le e m.reaches in
+    let s = ends_in m.made (limit - used) (limit - used') h r r' m.regs v new v le e m.reaches in
     let is = sym s.regs in
     record {
       halt = s.halt;
+      view = s.view;
       next = Ends (subst (λ (x : Regs). reg x 10 ≡ 1) is m.words.0) (subst (λ (x : Regs). reg x 11 ≡ plan.status) is m.words.1.0) (record {
         ended = refl;
         written = sym (append-nil console) ∙ written;
@@ -75,29 +77,29 @@ next_from plan [] [] r r' ram console writes used limit used' instructions h a b
         made = omega (arith, m.sum, s.rest);
       });
     }
-next_from plan (string ∷ strings) (at ∷ places) r r' ram console writes used limit used' instructions h a b f e m lie total written counted =
+next_from plan (string ∷ strings) (at ∷ places) r r' v new console writes used limit used' instructions h a b f e m lie total written counted =
     let le : m.made ≤ limit - used = omega (arith, m.sum) in
-    let s = ends_in m.made (limit - used) (limit - used') h r r' m.regs (flat_view ram) (flat_view ram) m.view le e m.reaches in
+    let s = ends_in m.made (limit - used) (limit - used') h r r' m.regs v new v le e m.reaches in
     let is = sym s.regs in
-    let go = λ (x : Regs) (v : View). Makes (calls_of strings places plan.status) (with_reg x 10 (length string)) v m.rest in
     record {
       halt = s.halt;
-      next = Writes string at (subst (λ (x : Regs). reg x 10 ≡ 16) is m.words.0) (subst (λ (x : Regs). reg x 11 ≡ 1) is m.words.1.0) (subst (λ (x : Regs). reg x 12 ≡ at) is m.words.1.1.0) (subst (λ (x : Regs). reg x 13 ≡ length string) is m.words.1.1.1.0) lie.0 (record {
+      view = s.view;
+      next = Writes string at (subst (λ (x : Regs). reg x 10 ≡ 16) is m.words.0) (subst (λ (x : Regs). reg x 11 ≡ 1) is m.words.1.0) (subst (λ (x : Regs). reg x 12 ≡ at) is m.words.1.1.0) (subst (λ (x : Regs). reg x 13 ≡ length string) is m.words.1.1.1.0) lie.0 lie.1 (record {
         strings = strings;
         places = places;
         instructions = m.rest;
-        makes = subst (λ (x : Regs). go x (flat_view ram)) is (subst (λ (v : View). go m.regs v) (sym s.view) m.on);
-        lie = lie.1;
+        makes = subst (λ (x : Regs). Makes (calls_of strings places plan.status) (with_reg x 10 (length string)) v m.rest) is m.on;
+        lie = lie.2;
         total = omega (arith, m.sum, s.rest);
         written = wrote string strings console (joined plan.strings) written;
         counted = omega (arith, counted);
       });
     }
-next_from plan [] (at ∷ places) r r' ram console writes used limit used' instructions h a b f e m lie total written counted = absurd lie
-next_from plan (string ∷ strings) [] r r' ram console writes used limit used' instructions h a b f e m lie total written counted = absurd lie
+next_from plan [] (at ∷ places) r r' v new console writes used limit used' instructions h a b f e m lie total written counted = absurd lie
+next_from plan (string ∷ strings) [] r r' v new console writes used limit used' instructions h a b f e m lie total written counted = absurd lie
 
-pub next_of : (plan : Plan) (r r' : Regs) (ram console : List ℕ) (writes used limit used' limit' : ℕ) (h : Halt)
-    → used ≤ limit → used' ≤ limit' → limit' ≡ limit → IsWithin plan limit → end_at r' (flat_view ram) (limit' - used') h ≡ stretch (limit - used) r (flat_view ram)
-    → Remains plan r ram console writes used → Comes h plan r' ram console writes used'
-next_of plan r r' ram console writes used limit used' limit' h a b l w e s =
-    next_from plan s.strings s.places r r' ram console writes used limit used' s.instructions h a (omega arith) w.fuel (ap (λ n. end_at r' (flat_view ram) (n - used') h) (sym l) ∙ e) s.makes s.lie s.total s.written s.counted
+pub next_of : (plan : Plan) (r r' : Regs) (v new : View) (console : List ℕ) (writes used limit used' limit' : ℕ) (h : Halt)
+    → used ≤ limit → used' ≤ limit' → limit' ≡ limit → IsWithin plan limit → end_at r' new (limit' - used') h ≡ stretch (limit - used) r v
+    → Remains plan r v console writes used → Comes h plan r' v new console writes used'
+next_of plan r r' v new console writes used limit used' limit' h a b l w e s =
+    next_from plan s.strings s.places r r' v new console writes used limit used' s.instructions h a (omega arith) w.fuel (ap (λ n. end_at r' new (n - used') h) (sym l) ∙ e) s.makes s.lie s.total s.written s.counted

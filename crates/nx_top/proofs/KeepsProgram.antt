@@ -5,7 +5,7 @@ use Rattle.std.proofs.lemmas.List.{length-append, length-set, get_or-set_same, g
 use Rattle.nx_base.specs.Registers.{reg}
 use Rattle.nx_base.specs.Views.{View}
 use Rattle.nx_rv.proofs.Turns.{AreHere, here_front, here_back, IsAt, one_went, plus_none}
-use Rattle.nx_top.specs.declared.image.ProgImage.{ProgImage}
+use Rattle.nx_ram.specs.declared.prog_image.ProgImage.{ProgImage}
 use Rattle.nx_top.specs.Layout.{text_start, stack_low, stack_high}
 use Rattle.nx_top.specs.Program.{Program}
 use Rattle.nx_top.specs.Compiled.{addi, stub, proxies, proxy_at, main_at, literals_at, writes_code, main_code, insts_of, code_bytes, literals, places_from}

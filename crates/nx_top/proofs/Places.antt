@@ -10,13 +10,14 @@ use Rattle.nx_rv.specs.declared.inst.Inst.{Inst}
 use Rattle.nx_rv.specs.Table.{encode_of, IsInRange}
 use Rattle.nx_rv.proofs.Rows.{encode_small}
 use Rattle.nx_rv.proofs.Turns.{IsHere, AreHere}
-use Rattle.nx_top.specs.declared.image.ProgImage.{ProgImage}
+use Rattle.nx_ram.specs.declared.prog_image.ProgImage.{ProgImage}
 use Rattle.nx_top.specs.Layout.{ram_start, text_start}
 use Rattle.nx_top.specs.Program.{Program}
 use Rattle.nx_top.specs.Compiled.{stub, proxies, main_code, insts_of, code_bytes, literals, padded, text_of, places_from}
 use Rattle.nx_top.specs.Runs.{flat_view, IsBooted, StandsAt, StandAt, HasCode}
 use Rattle.nx_top.specs.IsCompiled.{IsCompiled}
 use Rattle.nx_top.proofs.Sizes.{code_bytes-append, length-code_bytes}
+use Rattle.nx_top.proofs.Parts.{parted}
 
 -- a word of the RAM
 fetch_flat : (ram : List ℕ) (at k : ℕ) → at ≡ ram_start + k → k + 4 ≤ length ram → fetch_word (flat_view ram) at ≡ Ok (from_le (get_bytes ram k 4))
@@ -60,7 +61,8 @@ text_is p = append_assoc (code_bytes (insts_of p)) (literals p.writes) (zeros_of
 
 -- the RAM has the instructions in their place
 pub booted_here : (p : Program) (image : ProgImage) (ram : List ℕ) → IsCompiled image p → All IsInRange (insts_of p) → IsBooted image ram → AreHere (flat_view ram) text_start (insts_of p)
-booted_here p image ram c h b =
+booted_here p image ram c h booted =
+    let b = parted image ram booted in
     let code = code_bytes (insts_of p) in
     let tail = literals p.writes ++ zeros_of p in
     let e : ram ≡ b.before ++ (code ++ (tail ++ b.behind)) =

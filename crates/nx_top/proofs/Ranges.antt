@@ -67,17 +67,17 @@ all_in_range (i ∷ is) h = All-cons IsInRange i is h.0 (all_in_range is h.1)
 
 stub_in_range : (number : ℕ) → number < 2048 → All IsInRange (stub number)
 unfolding stub
-stub_in_range number h = all_in_range (stub number) ((refl, omega arith, omega arith, omega arith), ((refl, omega arith, omega arith, h), (tt, tt)))
+stub_in_range number h = all_in_range (stub number) ((omega arith, omega arith, omega arith), ((omega arith, omega arith, h), (tt, tt)))
 
 proxy_in_range : All IsInRange write_proxy
 unfolding write_proxy
 proxy_in_range = all_in_range write_proxy (
-  (refl, omega arith, omega arith, omega arith),
+  (omega arith, omega arith, omega arith),
   (
-    (refl, omega arith, omega arith, omega arith),
+    (omega arith, omega arith, omega arith),
     (
-      (refl, omega arith, omega arith, omega arith),
-      ((refl, omega arith, omega arith, omega arith), (tt, ((omega arith, omega arith, omega arith), tt))),
+      (omega arith, omega arith, omega arith),
+      ((omega arith, omega arith, omega arith), (tt, ((omega arith, omega arith, omega arith), tt))),
     ),
   ),
 )
@@ -92,13 +92,13 @@ unfolding write_code
 write_in_range here literal count a b c d e =
     let n = upper_near literal in
     all_in_range (write_code here literal count) (
-      (refl, omega arith, omega arith, omega arith),
+      (omega arith, omega arith, omega arith),
       (
         (omega arith, omega arith, n.2),
         (
-          (refl, omega arith, omega arith, lower_within literal),
+          (omega arith, omega arith, lower_within literal),
           (
-            (refl, omega arith, omega arith, omega arith),
+            (omega arith, omega arith, omega arith),
             ((omega arith, difference_within 1048576 proxy_at (here + 16) (omega arith) (omega arith), even_difference proxy_at (here + 16) (omega arith) (omega arith) (omega arith) (omega arith)), tt),
           ),
         ),
@@ -122,9 +122,9 @@ main_in_range p f =
     let l = literals_small p f in
     let few = f.few in
     let status = f.status in
-    All-append IsInRange (addi 8 1 (pos 0) ∷ []) _ (all_in_range (addi 8 1 (pos 0) ∷ []) ((refl, omega arith, omega arith, omega arith), tt))
+    All-append IsInRange (addi 8 1 (pos 0) ∷ []) _ (all_in_range (addi 8 1 (pos 0) ∷ []) ((omega arith, omega arith, omega arith), tt))
     (All-append IsInRange _ _ (writes_in_range (main_at p + 4) (literals_at p) p.writes (omega arith) (omega arith) (omega arith) (omega arith) f.short)
-    (all_in_range (addi 10 0 (pos p.status) ∷ Jalr 0 8 (pos 0) ∷ []) ((refl, omega arith, omega arith, omega arith), ((omega arith, omega arith, omega arith), tt))))
+    (all_in_range (addi 10 0 (pos p.status) ∷ Jalr 0 8 (pos 0) ∷ []) ((omega arith, omega arith, omega arith), ((omega arith, omega arith, omega arith), tt))))
 
 pub insts_in_range : (p : Program) → FitsText p → All IsInRange (insts_of p)
 unfolding insts_of

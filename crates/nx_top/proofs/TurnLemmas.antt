@@ -1,42 +1,42 @@
 -- What an answer leaves of a planned run.
-use Rattle.std.proofs.Common.{◌≡◌, ℕ, ◌+◌, List, ◌++◌, length, Result, Ok, Err, IfOk, OnOk, sym, ap, ◌∙◌, subst}
-use Rattle.std.proofs.Common.{◌⊎◌, ⊎_elim}
-use Rattle.nx_rv.specs.Execution.{Call}
-use Rattle.nx_top.specs.declared.machine.Stop.{Stop}
-use Rattle.nx_top.specs.declared.machine.Stop.TheVariants as stop
-use Rattle.nx_top.specs.Steps.{halt_of}
+use Rattle.std.proofs.Common.{◌≡◌, ℕ, ◌+◌, List, ◌++◌, length, Result, Ok, Err, IfOk, OnOk, sym, ap, ◌∙◌, subst, ◌⊎◌, ⊎_elim}
 use Rattle.std.specs.declared.alloc.AllocError.{AllocError}
 use Rattle.nx_base.specs.Registers.{with_reg}
+use Rattle.nx_base.specs.Views.{View}
+use Rattle.nx_rv.specs.Execution.{Call}
+use Rattle.nx_machine.specs.declared.machine.Stop.{Stop}
+use Rattle.nx_machine.specs.declared.machine.Stop.TheVariants as stop
+use Rattle.nx_machine.specs.Outcome.{halt_of}
 use Rattle.nx_top.specs.declared.guest.Answer.{Answer}
 use Rattle.nx_top.specs.declared.guest.Answer.TheVariants.{Wrote, Ended}
 use Rattle.nx_top.specs.declared.guest.Guest.{Guest}
 use Rattle.nx_top.specs.Guests.{Plan, Remains, IsDone, AfterTurn}
 
-abbrev pub After : Plan → Answer → Guest → List ℕ → Type 0
-After plan a g ram = AfterTurn plan a g.machine.regs ram g.console g.writes g.count.used
+abbrev pub After : Plan → Answer → Guest → View → Type 0
+After plan a g v = AfterTurn plan a g.machine v g.console g.writes g.count.used
 
 -- the guest behind a write
 abbrev pub written : Guest → ℕ → List ℕ → Guest
-written g count bytes = record g { machine = record { regs = with_reg g.machine.regs 10 count }; console = g.console ++ bytes; writes = g.writes + 1 }
+written g count bytes = record g { machine = with_reg g.machine 10 count; console = g.console ++ bytes; writes = g.writes + 1 }
 
 -- what holds for each plan of whatever answer came
 pub for_each_plan : (r : Result Answer AllocError) (A B : Plan → Type 0) (C : Plan → Answer → Type 0) → ((plan : Plan) → A plan → B plan → IfOk r (λ a. C plan a)) → IfOk r (λ a. (plan : Plan) → A plan → B plan → C plan a)
 for_each_plan (Ok a) A B C h = h
 for_each_plan (Err e) A B C h = tt
 
-pub after_write : (r : Result Answer AllocError) (plan : Plan) (g g' : Guest) (ram string bytes : List ℕ) → bytes ≡ string → OnOk r ((r ≡ Ok Wrote) × (g' ≡ written g (length string) bytes))
-    → Remains plan (with_reg g.machine.regs 10 (length string)) ram (g.console ++ string) (g.writes + 1) g.count.used → IfOk r (λ a. After plan a g' ram)
-after_write (Ok a) plan g g' ram string bytes same h rest =
+pub after_write : (r : Result Answer AllocError) (plan : Plan) (g g' : Guest) (v new : View) (string : List ℕ) → new ≡ v → OnOk r ((r ≡ Ok Wrote) × (g' ≡ written g (length string) string))
+    → Remains plan (with_reg g.machine 10 (length string)) v (g.console ++ string) (g.writes + 1) g.count.used → IfOk r (λ a. After plan a g' new)
+after_write (Ok a) plan g g' v new string same h rest =
     let is : Wrote ≡ a = let e = h.0 in cc in
-    let left : After plan Wrote (written g (length string) string) ram = rest in
-    subst (λ (b : Answer). After plan b g' ram) is (subst (λ (x : Guest). After plan Wrote x ram) (ap (λ (bs : List ℕ). written g (length string) bs) (sym same) ∙ sym h.1) left)
-after_write (Err e) plan g g' ram string bytes same h rest = tt
+    let left : After plan Wrote (written g (length string) string) v = rest in
+    subst (λ (b : Answer). After plan b g' new) is (subst (λ (u : View). After plan Wrote g' u) (sym same) (subst (λ (x : Guest). After plan Wrote x v) (sym h.1) left))
+after_write (Err e) plan g g' v new string same h rest = tt
 
-pub after_end : (r : Result Answer AllocError) (plan : Plan) (g g' : Guest) (ram : List ℕ) (status : ℕ) → status ≡ plan.status → (r ≡ Ok (Ended status)) × (g' ≡ g)
-    → IsDone plan plan.status g.console g.writes g.count.used → IfOk r (λ a. After plan a g' ram)
-after_end r plan g g' ram status same h done =
-    let left : IfOk {E = AllocError} (Ok (Ended plan.status)) (λ a. After plan a g ram) = done in
-    subst (λ (x : Result Answer AllocError). IfOk x (λ a. After plan a g' ram)) (ap (λ n. Ok (Ended n)) (sym same) ∙ sym h.0) (subst (λ (x : Guest). IfOk {E = AllocError} (Ok (Ended plan.status)) (λ a. After plan a x ram)) (sym h.1) left)
+pub after_end : (r : Result Answer AllocError) (plan : Plan) (g g' : Guest) (v : View) (status : ℕ) → status ≡ plan.status → (r ≡ Ok (Ended status)) × (g' ≡ g)
+    → IsDone plan plan.status g.console g.writes g.count.used → IfOk r (λ a. After plan a g' v)
+after_end r plan g g' v status same h done =
+    let left : IfOk {E = AllocError} (Ok (Ended plan.status)) (λ a. After plan a g v) = done in
+    subst (λ (x : Result Answer AllocError). IfOk x (λ a. After plan a g' v)) (ap (λ n. Ok (Ended n)) (sym same) ∙ sym h.0) (subst (λ (x : Guest). IfOk {E = AllocError} (Ok (Ended plan.status)) (λ a. After plan a x v)) (sym h.1) left)
 
 -- a trap and the end of the fuel are no call
 pub no_call : (s : Stop) → ((cause : ℕ) × (s ≡ stop.Trap cause)) ⊎ (s ≡ stop.Fuel) → halt_of s ≡ Call → ⊥

@@ -128,7 +128,7 @@ end_words r regs pc status h s = (
   (s.holds 11 ∙ plus_none _ status (plus_from_zero r status (omega arith)) (omega arith), tt),
 )
 
-pub end_made : (r : Regs) (v : View) (here ra status n : ℕ) → n ≡ 5 → here + 4 < 2 ^ 32 → ra % 4 ≡ 0 → ra + 12 < 2 ^ 32 → status ≤ 255 → IsMain r here ra → AreHere v here (end_code status) → AreHere v ra (stub 1) → MakesCall r v (end_call status) n (λ r' v' m. m ≡ 0)
+pub end_made : (r : Regs) (v : View) (here ra status n : ℕ) → n ≡ 5 → here + 4 < 2 ^ 32 → ra % 4 ≡ 0 → ra + 12 < 2 ^ 32 → status ≤ 255 → IsMain r here ra → AreHere v here (end_code status) → AreHere v ra (stub 1) → MakesCall r v (end_call status) n (λ r' m. m ≡ 0)
 end_made r v here ra status n e fits al fits' small m h stub_here =
     let set = addi 10 0 (pos status) ∷ [] in
     let t1 = temps_in set (reg r) in
@@ -142,7 +142,6 @@ end_made r v here ra status n e fits al fits' small m h stub_here =
     record {
       made = 5;
       regs = advance w.regs;
-      view = v;
       reaches = reaches_call 4 5 r v (ra + 8) t2 refl w (stub_end v ra stub_here);
       words = end_words r (advance w.regs) (ra + 8 + 4) status small s;
       rest = 0;
@@ -151,11 +150,10 @@ end_made r v here ra status n e fits al fits' small m h stub_here =
     }
 
 -- a call that comes after instructions
-makes_later : (m k n : ℕ) (r : Regs) (v : View) (r1 : Regs) (call : Asked) (go : Regs → View → ℕ → Type 0) → n ≡ m + k → Leads m r v r1 → MakesCall r1 v call k go → MakesCall r v call n go
+makes_later : (m k n : ℕ) (r : Regs) (v : View) (r1 : Regs) (call : Asked) (go : Regs → ℕ → Type 0) → n ≡ m + k → Leads m r v r1 → MakesCall r1 v call k go → MakesCall r v call n go
 makes_later m k n r v r1 call go e l a = record {
   made = a.made + m;
   regs = a.regs;
-  view = a.view;
   reaches = l.by a.made ∙ a.reaches;
   words = a.words;
   rest = a.rest;
@@ -164,9 +162,9 @@ makes_later m k n r v r1 call go e l a = record {
 }
 
 pub makes_more : (strings : List (List ℕ)) (places : List ℕ) (status m k n : ℕ) (r : Regs) (v : View) (r1 : Regs) → n ≡ m + k → Leads m r v r1 → Makes (calls_of strings places status) r1 v k → Makes (calls_of strings places status) r v n
-makes_more [] places status m k n r v r1 e l a = makes_later m k n r v r1 (end_call status) (λ r' v' j. j ≡ 0) e l a
-makes_more (s ∷ strings) [] status m k n r v r1 e l a = makes_later m k n r v r1 (end_call status) (λ r' v' j. j ≡ 0) e l a
-makes_more (s ∷ strings) (at ∷ places) status m k n r v r1 e l a = makes_later m k n r v r1 (write_call s at) (λ r' v' j. Makes (calls_of strings places status) r' v' j) e l a
+makes_more [] places status m k n r v r1 e l a = makes_later m k n r v r1 (end_call status) (λ r' j. j ≡ 0) e l a
+makes_more (s ∷ strings) [] status m k n r v r1 e l a = makes_later m k n r v r1 (end_call status) (λ r' j. j ≡ 0) e l a
+makes_more (s ∷ strings) (at ∷ places) status m k n r v r1 e l a = makes_later m k n r v r1 (write_call s at) (λ r' j. Makes (calls_of strings places status) r' v j) e l a
 
 fewer_proxies : (v : View) (strings : List (List ℕ)) → AreHere v proxy_at write_proxy → AreHere v proxy_at (proxies strings)
 unfolding proxies
@@ -192,7 +190,6 @@ writes_made (s ∷ strings) here literal ra status n r v e f g al fits small sho
     record {
       made = 10;
       regs = w.regs;
-      view = v;
       reaches = w.reaches;
       words = w.words;
       rest = 1 + (11 * length strings + 5);

@@ -1,12 +1,13 @@
 -- A program's run: the calls that are still to come, and what was written so far.
-use Rattle.std.specs.Prelude.{◌≡◌, ℕ, ◌+◌, ◌-◌, ◌≤◌, List, [], ◌∷◌, ◌++◌, length, take, drop, Option, Some, None}
+use Rattle.std.specs.Prelude.{◌≡◌, ℕ, ◌+◌, ◌^◌, ◌≤◌, List, [], ◌∷◌, ◌++◌, length, Option, Some, None, Ok}
 use Rattle.std.specs.List.{flat_map}
 use Rattle.nx_base.specs.declared.regs.Regs.{Regs}
 use Rattle.nx_top.specs.declared.guest.Answer.{Answer}
 use Rattle.nx_top.specs.declared.guest.Answer.TheVariants.{Wrote, Ended, Stray}
 use Rattle.nx_top.specs.declared.guest.GuestRun.{GuestRun}
-use Rattle.nx_top.specs.Layout.{ram_start, fuel}
-use Rattle.nx_top.specs.Runs.{flat_view, Makes, calls_of}
+use Rattle.nx_base.specs.Views.{View, load_bytes}
+use Rattle.nx_top.specs.Layout.{fuel}
+use Rattle.nx_top.specs.Runs.{Makes, calls_of}
 
 -- a run that writes these strings, which stand at these addresses, and ends with a status after so many instructions
 pub record Plan : Type 0 where
@@ -18,25 +19,24 @@ pub record Plan : Type 0 where
 abbrev pub joined : List (List ℕ) → List ℕ
 joined strings = flat_map (λ s. s) strings
 
--- a string stands in the RAM at an address
-pub record LiesAt (ram string : List ℕ) (at : ℕ) : Type 0 where
-  pub from : ram_start ≤ at
-  pub to : at - ram_start + length string ≤ length ram
-  pub bytes : take (length string) (drop (at - ram_start) ram) ≡ string
+-- a string lies in a view at an address, byte by byte
+abbrev pub LiesAt : View → List ℕ → ℕ → Type 0
+LiesAt v [] at = Unit {0}
+LiesAt v (b ∷ bs) at = (load_bytes v at 1 ≡ Ok b) × LiesAt v bs (at + 1)
 
--- each string stands at its address
-abbrev pub LieAt : List ℕ → List (List ℕ) → List ℕ → Type 0
-LieAt ram [] [] = Unit {0}
-LieAt ram (string ∷ strings) (at ∷ places) = LiesAt ram string at × LieAt ram strings places
-LieAt ram _ _ = ⊥
+-- each string lies at its address, and ends below 2^32
+abbrev pub LieAt : View → List (List ℕ) → List ℕ → Type 0
+LieAt v [] [] = Unit {0}
+LieAt v (string ∷ strings) (at ∷ places) = (at + length string ≤ 2 ^ 32) × LiesAt v string at × LieAt v strings places
+LieAt v _ _ = ⊥
 
 -- what remains of a planned run, once some of it was made
-pub record Remains (plan : Plan) (r : Regs) (ram console : List ℕ) (writes used : ℕ) : Type 0 where
+pub record Remains (plan : Plan) (r : Regs) (v : View) (console : List ℕ) (writes used : ℕ) : Type 0 where
   pub strings : List (List ℕ)
   pub places : List ℕ
   pub instructions : ℕ
-  pub makes : Makes (calls_of strings places plan.status) r (flat_view ram) instructions
-  pub lie : LieAt ram strings places
+  pub makes : Makes (calls_of strings places plan.status) r v instructions
+  pub lie : LieAt v strings places
   pub total : used + instructions ≡ plan.instructions
   pub written : console ++ joined strings ≡ joined plan.strings
   pub counted : writes + length strings ≡ length plan.strings
@@ -49,21 +49,21 @@ pub record IsDone (plan : Plan) (status : ℕ) (console : List ℕ) (writes used
   pub made : used ≡ plan.instructions
 
 -- what an answer means for a planned run
-abbrev pub AfterTurn : Plan → Answer → Regs → List ℕ → List ℕ → ℕ → ℕ → Type 0
-AfterTurn plan Wrote r ram console writes used = Remains plan r ram console writes used
-AfterTurn plan (Ended status) r ram console writes used = IsDone plan status console writes used
-AfterTurn plan Stray r ram console writes used = ⊥
+abbrev pub AfterTurn : Plan → Answer → Regs → View → List ℕ → ℕ → ℕ → Type 0
+AfterTurn plan Wrote r v console writes used = Remains plan r v console writes used
+AfterTurn plan (Ended status) r v console writes used = IsDone plan status console writes used
+AfterTurn plan Stray r v console writes used = ⊥
 
 -- a plan whose calls come within a limit
 pub record IsWithin (plan : Plan) (limit : ℕ) : Type 0 where
   pub fuel : plan.instructions ≤ limit
   pub small : plan.status ≤ 255
 
--- the words in the RAM follow a plan from these registers on
-pub record IsPlanned (plan : Plan) (r : Regs) (ram : List ℕ) : Type 0 where
+-- the words in a view follow a plan from these registers on
+pub record IsPlanned (plan : Plan) (r : Regs) (v : View) : Type 0 where
   pub within : IsWithin plan fuel
-  pub makes : Makes (calls_of plan.strings plan.places plan.status) r (flat_view ram) plan.instructions
-  pub lie : LieAt ram plan.strings plan.places
+  pub makes : Makes (calls_of plan.strings plan.places plan.status) r v plan.instructions
+  pub lie : LieAt v plan.strings plan.places
 
 -- a run that went as planned
 abbrev pub RanAs : Plan → Option GuestRun → Type 0

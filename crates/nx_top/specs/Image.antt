@@ -2,7 +2,7 @@
 use Rattle.std.specs.Prelude.{ℕ, ◌-◌, List, [], ◌∷◌, ◌++◌, length, codes, replicate}
 use Rattle.std.specs.List.{flat_map}
 use Rattle.nx_base.specs.ByteLists.{to_le}
-use Rattle.nx_top.specs.declared.image.ProgImage.{ProgImage}
+use Rattle.nx_ram.specs.declared.prog_image.ProgImage.{ProgImage}
 
 -- a gate: a call's number, and the kind of each parameter
 pub record Gate : Type 0 where

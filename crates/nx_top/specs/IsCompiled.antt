@@ -1,6 +1,6 @@
 -- Programs that fit in the text, and what an image of one holds.
 use Rattle.std.specs.Prelude.{◌≡◌, ℕ, ◌+◌, ◌<◌, ◌≤◌, List, [], length, All}
-use Rattle.nx_top.specs.declared.image.ProgImage.{ProgImage}
+use Rattle.nx_ram.specs.declared.prog_image.ProgImage.{ProgImage}
 use Rattle.nx_top.specs.Layout.{text_start, data_start}
 use Rattle.nx_top.specs.Program.{Program}
 use Rattle.nx_top.specs.Compiled.{text_of, main_at}

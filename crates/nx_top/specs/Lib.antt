@@ -5,7 +5,6 @@ pub mod Layout
 pub mod Compiled
 pub mod Image
 pub mod Runs
-pub mod Steps
 pub mod Guests
 pub mod IsCompiled
 pub mod Report

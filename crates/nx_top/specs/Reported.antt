@@ -1,6 +1,6 @@
 -- What a report tells of its program.
 use Rattle.std.specs.Prelude.{◌≡◌, ℕ, ◌+◌, ◌*◌, List, [], ◌∷◌, length}
-use Rattle.nx_top.specs.declared.image.ProgImage.{ProgImage}
+use Rattle.nx_ram.specs.declared.prog_image.ProgImage.{ProgImage}
 use Rattle.nx_top.specs.declared.guest.GuestRun.{GuestRun}
 use Rattle.nx_top.specs.declared.report.Report.{Report}
 use Rattle.nx_top.specs.Layout.{ram_bytes}

@@ -1,13 +1,12 @@
 -- A booted image, and the calls that its words make.
-use Rattle.std.specs.Prelude.{◌≡◌, ℕ, ◌+◌, ◌-◌, ◌%◌, ◌≤◌, true, false, List, [], ◌∷◌, ◌++◌, length, slice_set, replicate, ◌==◌}
-use Rattle.std.specs.List.{list_all}
+use Rattle.std.specs.Prelude.{◌≡◌, ℕ, ◌+◌, ◌-◌, ◌%◌, ◌<◌, ◌≤◌, ◌⊎◌, true, false, List, [], ◌∷◌, length, slice_index, slice_set, replicate}
 use Rattle.nx_base.specs.declared.regs.Regs.{Regs}
 use Rattle.nx_base.specs.ByteLists.{get_bytes}
 use Rattle.nx_base.specs.Registers.{reg, with_reg}
 use Rattle.nx_base.specs.Views.{View}
 use Rattle.nx_rv.specs.declared.inst.Inst.{Inst}
 use Rattle.nx_rv.specs.Execution.{ReachesCall}
-use Rattle.nx_top.specs.declared.image.ProgImage.{ProgImage}
+use Rattle.nx_ram.specs.declared.prog_image.ProgImage.{ProgImage}
 use Rattle.nx_top.specs.Layout.{ram_start, ram_bytes, stack_low, stack_high}
 use Rattle.nx_top.specs.Compiled.{stub, code_bytes}
 use Rattle.nx_top.specs.Program.{Program}
@@ -16,18 +15,13 @@ use Rattle.nx_top.specs.Program.{Program}
 abbrev pub flat_view : List ℕ → View
 flat_view ram = record { windows = record { start = ram_start; reads = true; writes = true; runs = true; bytes = ram } ∷ []; is_paged = false }
 
-abbrev pub AreZeros : List ℕ → Type 0
-AreZeros bytes = list_all (λ b. b == 0) bytes ≡ true
-
 -- the flat RAM with a program's text in its place, and zeros elsewhere
 pub record IsBooted (image : ProgImage) (ram : List ℕ) : Type 0 where
-  pub before : List ℕ
-  pub behind : List ℕ
-  pub ram_is : ram ≡ before ++ image.text ++ behind
-  pub text_there : ram_start + length before ≡ image.text_at
   pub whole : length ram ≡ ram_bytes
-  pub zeros_before : AreZeros before
-  pub zeros_behind : AreZeros behind
+  pub from : ram_start ≤ image.text_at
+  pub to : image.text_at - ram_start + length image.text ≤ length ram
+  pub text : get_bytes ram (image.text_at - ram_start) (length image.text) ≡ image.text
+  pub zeros : (i : ℕ) → (i < image.text_at - ram_start) ⊎ (image.text_at - ram_start + length image.text ≤ i) → slice_index ram i ≡ 0
 
 -- registers of a main thread: 1 is the first stub, 2 the stack's end, 4 its lowest address, all others 0
 unfoldable pub start_regs : ProgImage → Regs
@@ -46,21 +40,20 @@ abbrev pub HoldsFrom : ℕ → List ℕ → Regs → Type 0
 HoldsFrom k [] r = Unit {0}
 HoldsFrom k (w ∷ ws) r = (reg r k ≡ w) × HoldsFrom (k + 1) ws r
 
--- a stretch that ends in a call, and what comes behind its reply, n instructions in all
-pub record MakesCall (r : Regs) (v : View) (call : Asked) (n : ℕ) (go : Regs → View → ℕ → Type 0) : Type 0 where
+-- a stretch that ends in a call and leaves the view as it was, and what comes behind its reply, n instructions in all
+pub record MakesCall (r : Regs) (v : View) (call : Asked) (n : ℕ) (go : Regs → ℕ → Type 0) : Type 0 where
   pub made : ℕ
   pub regs : Regs
-  pub view : View
-  pub reaches : ReachesCall made r v regs view
+  pub reaches : ReachesCall made r v regs v
   pub words : HoldsFrom 10 call.words regs
   pub rest : ℕ
   pub sum : n ≡ made + rest
-  pub on : go (with_reg regs 10 call.reply) view rest
+  pub on : go (with_reg regs 10 call.reply) rest
 
 -- the instructions from these registers make exactly these calls, each answered in register 10, n instructions in all
 abbrev pub Makes : List Asked → Regs → View → ℕ → Type 0
 Makes [] r v n = n ≡ 0
-Makes (call ∷ calls) r v n = MakesCall r v call n (λ r' v' m. Makes calls r' v' m)
+Makes (call ∷ calls) r v n = MakesCall r v call n (λ r' m. Makes calls r' v m)
 
 -- write(1, at, count), all of which is written
 abbrev pub write_call : List ℕ → ℕ → Asked

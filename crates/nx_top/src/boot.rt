@@ -1,50 +1,46 @@
-ghost use Rattle.std.specs.Prelude.{◌≡◌, ◌+◌, ◌-◌, ◌<◌, ◌≤◌, ◌^◌, ◌++◌, length, replicate, IfOk};
-ghost use Rattle.nx_top.specs.Layout.{ram_start, ram_bytes};
-ghost use Rattle.nx_top.specs.Runs.{IsBooted, start_regs};
+ghost use Rattle.std.specs.Prelude.{◌≡◌, ℕ, List, ◌≤◌, length, IfOk};
+ghost use Rattle.nx_space.specs.World.{view_in, IsEntered};
+ghost use Rattle.nx_top.specs.IsCompiled.{IsLaidOut};
+ghost use Rattle.nx_top.specs.Layout.{ram_bytes};
+ghost use Rattle.nx_top.specs.Runs.{IsBooted, flat_view, start_regs};
 
-use crate::image::ProgImage;
-use crate::layout::{RAM_BYTES, RAM_START, stack_high, stack_low};
-use nx_base::{Bytes, Regs};
+use crate::layout::{STACK_BYTES, THREADS};
+use nx_base::Regs;
+use nx_ram::{ProgImage, Ram};
+use nx_space::{FlatSpace, RAM_START, Space};
 use std::alloc::{AllocError, Global};
 
-// Bytes with zeros before and behind.
-fn between_zeros(
-    alloc: Global,
-    before: usize,
-    bytes: &[u8],
-    behind: usize,
-) -> Result<Bytes, AllocError>
-    ensures { IfOk result (λ all. all ≡ replicate before 0 ++ bytes.now ++ replicate behind 0) }
-{
-    let mut all = Bytes::new(alloc);
-    all.append_zeros(alloc, before)?;
-    all.append(bytes)?;
-    all.append_zeros(alloc, behind)?;
-    Ok(all)
+// The program is the second group, and has the slot behind the shell's.
+const PROGRAM_GROUP: u32 = 2;
+
+const PROGRAM_SLOT: u32 = 1;
+
+/// A space in which a program's group has its view, and the registers of its main thread.
+#[derive(Drop)]
+pub struct Booted {
+    pub space: FlatSpace,
+    pub regs: Regs,
 }
 
-/// The RAM with the program's text in its place, and zeros elsewhere.
-#[tactic(auto, using(crate::proofs::BootLemmas::booted))]
-pub fn boot_ram(alloc: Global, image: &ProgImage) -> Result<Bytes, AllocError>
-    requires from { ram_start ≤ image.now.text_at }
-    requires to { image.now.text_at - ram_start + length image.now.text ≤ ram_bytes }
-    ensures { IfOk result (IsBooted image.now) }
+/// Puts a program's text into a RAM of so many bytes, and starts and enters its group.
+pub fn boot(alloc: Global, image: ProgImage, size: u32) -> Result<Booted, AllocError>
+    requires laid_out { IsLaidOut image image.name }
+    requires whole { size ≡ ram_bytes }
+    requires short { length image.text ≤ 8192 }
+    ensures regs { IfOk result (λ b. b.regs ≡ start_regs image) }
+    ensures sees { IfOk result (λ b. (ram : List ℕ) × IsBooted image ram × (view_in (⟦<FlatSpace as Space>⟧.world b.space) ≡ flat_view ram) × IsEntered (⟦<FlatSpace as Space>⟧.world b.space)) }
 {
-    let before = (image.text_at - RAM_START) as usize;
-    let behind = RAM_BYTES as usize - before - image.text.len();
-    between_zeros(alloc, before, image.text.as_slice(), behind)
-}
-
-/// The registers with which the program's main thread starts.
-#[tactic(auto, unfolding(crate::specs::Runs::start_regs))]
-pub fn boot_regs(image: &ProgImage) -> Regs
-    requires { length image.now.text < 2 ^ 20 }
-    ensures { result ≡ start_regs image.now }
-{
-    let length = image.text.len() as u32;
-    let mut x = [0u32; 32];
-    x[1] = image.end_group;
-    x[2] = stack_high(length);
-    x[4] = stack_low(length);
-    Regs { x, pc: image.main }
+    let mut ram = Ram::new(alloc, size)?;
+    ram.put(image.text_at - RAM_START, image.text.as_slice());
+    let low = image.data_at;
+    let mut programs = Vec::new(alloc);
+    programs.push(image)?;
+    let mut space = FlatSpace::new(alloc, ram, programs, low, STACK_BYTES, THREADS)?;
+    match space.start(PROGRAM_GROUP, 0, PROGRAM_SLOT, true) {
+        Ok(regs) => {
+            space.enter(PROGRAM_GROUP);
+            Ok(Booted { space, regs })
+        }
+        Err(_) => unreachable!(),
+    }
 }

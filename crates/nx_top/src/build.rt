@@ -2,9 +2,9 @@ ghost use Rattle.std.specs.Prelude.{◌≡◌, ◌<◌, ◌≤◌, ◌^◌, leng
 ghost use Rattle.nx_top.specs.IsCompiled.{IsCompiled, IsLaidOut};
 
 use crate::compile::{compile, main_at};
-use crate::image::ProgImage;
 use crate::layout::{TEXT_START, data_start};
 use nx_base::{Bytes, Text};
+use nx_ram::ProgImage;
 use std::alloc::{AllocError, Global};
 
 /// The bytes of a stub, of three words.

@@ -1,11 +1,12 @@
-ghost use Rattle.std.specs.Prelude.{◌≡◌, ◌+◌, ◌-◌, ◌<◌, ◌≤◌, ◌%◌, ◌^◌, ◌++◌, ℕ, [], length, take, drop, OnOk, IfOk, Ok};
+ghost use Rattle.std.specs.Prelude.{◌≡◌, ◌+◌, ◌-◌, ◌<◌, ◌≤◌, ◌%◌, ◌^◌, ◌++◌, ℕ, List, length, OnOk, IfOk, Ok};
 ghost use Rattle.nx_base.specs.Registers.{reg, with_reg};
-ghost use Rattle.nx_top.specs.Guests.{Plan, Remains, IsDone, AfterTurn, IsWithin, IsPlanned, RanAs};
-ghost use Rattle.nx_top.specs.Layout.{ram_bytes, ram_start};
+ghost use Rattle.nx_space.specs.World.{view_in, IsEntered};
+ghost use Rattle.nx_top.specs.Guests.{Plan, LiesAt, Remains, IsDone, AfterTurn, IsWithin, IsPlanned, RanAs};
 
-use crate::layout::RAM_START;
-use crate::machine::{Machine, Stop};
-use nx_base::{Bytes, Count, Regs};
+use crate::seen::put_seen;
+use nx_base::{Access, Bytes, Count, Regs};
+use nx_machine::{Machine, Stop};
+use nx_space::{Space, good_told};
 use std::alloc::{AllocError, Global};
 
 const END_GROUP: u32 = 1;
@@ -27,15 +28,6 @@ pub enum Answer {
     Stray,
 }
 
-/// A program that runs, and what it wrote to the console so far.
-#[derive(Drop)]
-pub struct Guest {
-    machine: Machine,
-    count: Count,
-    console: Bytes,
-    writes: u64,
-}
-
 /// What a program's run came to, once it ended its group.
 #[derive(Debug, Drop)]
 pub struct GuestRun {
@@ -49,51 +41,61 @@ pub struct GuestRun {
     pub status: u8,
 }
 
+/// A program that runs, and what it wrote to the console so far.
+#[derive(Drop)]
+pub struct Guest {
+    machine: Machine,
+    count: Count,
+    console: Bytes,
+    writes: u64,
+}
+
 impl Guest {
-    // Writes bytes of the RAM to the console, and replies their number.
-    fn write(&mut self, ram: &[u8], at: u32, count: u32) -> Result<Answer, AllocError>
+    // Writes bytes of the view to the console, and replies their number.
+    fn write<S: Space>(&mut self, space: &mut S, at: u32, count: u32) -> Result<Answer, AllocError>
+        requires entered { IsEntered (S.world space.old) }
         requires room { self.old.writes < 2 ^ 63 }
         ensures kept { (self.new.count ≡ self.old.count) × (self.new.writes ≤ self.old.writes + 1) }
-        ensures written { ram_start ≤ at → at - ram_start + count ≤ length ram.now → OnOk result ((result ≡ Ok Answer.Wrote) × (self.new ≡ record self.old {
-          machine = record { regs = with_reg self.old.machine.regs 10 count };
-          console = self.old.console ++ take count (drop (at - ram_start) ram.now);
-          writes = self.old.writes + 1;
-        })) }
+        ensures same { S.world space.new ≡ S.world space.old }
+        ensures written { (string : List ℕ) → length string ≡ count → at + count ≤ 2 ^ 32 → LiesAt (view_in (S.world space.old)) string at
+            → OnOk result ((result ≡ Ok Answer.Wrote) × (self.new ≡ record self.old {
+              machine = with_reg self.old.machine 10 count;
+              console = self.old.console ++ string;
+              writes = self.old.writes + 1;
+            })) }
     {
-        if at < RAM_START {
+        if !good_told(space, at, count, Access::Load) {
             return Ok(Answer::Stray);
         }
-        let from = (at - RAM_START) as usize;
-        let end = from + count as usize;
-        if end > ram.len() {
-            return Ok(Answer::Stray);
-        }
-        self.console.append(&ram[from..end])?;
-        self.machine.regs.set(10, count);
+        put_seen(&mut self.console, space, at, count)?;
+        let mut regs = *self.machine.regs();
+        regs.set(10, count);
+        self.machine.set(regs);
         self.writes += 1;
         Ok(Answer::Wrote)
     }
 
     // Answers the call that the registers hold.
-    fn answer(&mut self, ram: &[u8]) -> Result<Answer, AllocError>
+    fn answer<S: Space>(&mut self, space: &mut S) -> Result<Answer, AllocError>
+        requires entered { IsEntered (S.world space.old) }
         requires room { self.old.writes < 2 ^ 63 }
         ensures kept { (self.new.count ≡ self.old.count) × (self.new.writes ≤ self.old.writes + 1) }
-        ensures ends { reg self.old.machine.regs 10 ≡ 1 → (result ≡ Ok (Answer.Ended (reg self.old.machine.regs 11 % 256))) × (self.new ≡ self.old) }
-        ensures writes { (at count : ℕ) → reg self.old.machine.regs 10 ≡ 16 → reg self.old.machine.regs 11 ≡ 1 → reg self.old.machine.regs 12 ≡ at → reg self.old.machine.regs 13 ≡ count
-            → ram_start ≤ at → at - ram_start + count ≤ length ram.now → OnOk result ((result ≡ Ok Answer.Wrote) × (self.new ≡ record self.old {
-              machine = record { regs = with_reg self.old.machine.regs 10 count };
-              console = self.old.console ++ take count (drop (at - ram_start) ram.now);
+        ensures same { S.world space.new ≡ S.world space.old }
+        ensures ends { reg self.old.machine 10 ≡ 1 → (result ≡ Ok (Answer.Ended (reg self.old.machine 11 % 256))) × (self.new ≡ self.old) }
+        ensures writes { (string : List ℕ) (at : ℕ) → reg self.old.machine 10 ≡ 16 → reg self.old.machine 11 ≡ 1 → reg self.old.machine 12 ≡ at → reg self.old.machine 13 ≡ length string
+            → at + length string ≤ 2 ^ 32 → LiesAt (view_in (S.world space.old)) string at → OnOk result ((result ≡ Ok Answer.Wrote) × (self.new ≡ record self.old {
+              machine = with_reg self.old.machine 10 (length string);
+              console = self.old.console ++ string;
               writes = self.old.writes + 1;
             })) }
     {
-        let value = self.machine.regs.get(11);
-        match self.machine.regs.get(10) {
+        let regs = self.machine.regs();
+        let value = regs.get(11);
+        let at = regs.get(12);
+        let count = regs.get(13);
+        match regs.get(10) {
             END_GROUP => Ok(Answer::Ended((value % 256) as u8)),
-            WRITE if value == CONSOLE => {
-                let at = self.machine.regs.get(12);
-                let count = self.machine.regs.get(13);
-                self.write(ram, at, count)
-            }
+            WRITE if value == CONSOLE => self.write(space, at, count),
             _ => Ok(Answer::Stray),
         }
     }
@@ -116,35 +118,42 @@ impl Guest {
     }
 
     // Runs up to the next call, and answers it.
-    fn turn(&mut self, ram: &[u8]) -> Result<Answer, AllocError>
-        requires whole { length ram.now ≡ ram_bytes }
+    fn turn<S: Space>(&mut self, space: &mut S) -> Result<Answer, AllocError>
+        requires entered { IsEntered (S.world space.old) }
         requires room { (self.old.writes ≤ self.old.count.used) × (self.old.count.used ≤ self.old.count.limit) × (self.old.count.limit < 2 ^ 63) }
         ensures limit { self.new.count.limit ≡ self.old.count.limit }
+        ensures entered { IsEntered (S.world space.new) }
         ensures made { result ≡ Ok Answer.Wrote → (self.old.count.used < self.new.count.used) × (self.new.writes ≤ self.new.count.used) × (self.new.count.used ≤ self.new.count.limit) }
-        ensures planned { IfOk result (λ a. (plan : Plan) → IsWithin plan self.old.count.limit → Remains plan self.old.machine.regs ram.now self.old.console self.old.writes self.old.count.used
-            → AfterTurn plan a self.new.machine.regs ram.now self.new.console self.new.writes self.new.count.used) }
+        ensures planned { IfOk result (λ a. (plan : Plan) → IsWithin plan self.old.count.limit → Remains plan self.old.machine (view_in (S.world space.old)) self.old.console self.old.writes self.old.count.used
+            → AfterTurn plan a self.new.machine (view_in (S.world space.new)) self.new.console self.new.writes self.new.count.used) }
     {
-        match self.machine.run(ram, &mut self.count) {
-            Stop::Call => self.answer(ram),
-            Stop::Trap(_) | Stop::Fuel => Ok(Answer::Stray),
+        match self.machine.run(space, &mut self.count) {
+            Stop::Call => self.answer(space),
+            Stop::Trap { .. } | Stop::Fuel => Ok(Answer::Stray),
         }
     }
 }
 
-/// Runs the words in the RAM from these registers on, and answers their calls, until they end their
-/// group. It comes to nothing where they do what no program that is built so far does.
-pub fn run_guest(alloc: Global, regs: Regs, ram: &[u8]) -> Result<Option<GuestRun>, AllocError>
-    requires { length ram.now ≡ ram_bytes }
-    ensures { IfOk result (λ run. (plan : Plan) → IsPlanned plan regs ram.now → RanAs plan run) }
+/// Runs the words of the entered view from these registers on, and answers their calls, until they
+/// end their group. It comes to nothing where they do what no program that is built so far does.
+pub fn run_guest<S: Space>(
+    alloc: Global,
+    regs: Regs,
+    space: &mut S,
+) -> Result<Option<GuestRun>, AllocError>
+    requires { IsEntered (S.world space.old) }
+    ensures { IfOk result (λ run. (plan : Plan) → IsPlanned plan regs (view_in (S.world space.old)) → RanAs plan run) }
 {
+    let mut machine = Machine::new();
+    machine.set(regs);
     let mut guest = Guest {
-        machine: Machine { regs },
+        machine,
         count: Count::new(FUEL),
         console: Bytes::new(alloc),
         writes: 0,
     };
     loop {
-        match guest.turn(ram)? {
+        match guest.turn(space)? {
             Answer::Wrote => {}
             Answer::Ended(status) => return Ok(Some(guest.done(status))),
             Answer::Stray => return Ok(None),

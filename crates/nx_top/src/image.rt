@@ -4,21 +4,9 @@ ghost use Rattle.nx_top.specs.Layout.{ram_bytes};
 ghost use Rattle.nx_top.specs.Image.{filled, program_numbers, program_bytes, gate_bytes, flat_image_bytes, flat_head, write_gate};
 
 use crate::layout::RAM_BYTES;
-use nx_base::{Bytes, Text};
+use nx_base::Bytes;
+use nx_ram::ProgImage;
 use std::alloc::{AllocError, Global};
-
-/// A program's part of an image. Addresses and lengths are in bytes.
-#[derive(Debug, Drop)]
-pub struct ProgImage {
-    pub name: Text,
-    pub text_at: u32,
-    pub text: Bytes,
-    pub data_at: u32,
-    pub init: Bytes,
-    pub main: u32,
-    pub end_group: u32,
-    pub end_thread: u32,
-}
 
 // The one gate: number 16 in two bytes, three kinds, a zero; word, in, len; zeros.
 const WRITE_GATE: [u8; 12] = [16, 0, 3, 0, 0, 1, 4, 0, 0, 0, 0, 0];

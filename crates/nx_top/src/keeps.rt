@@ -1,5 +1,5 @@
 ghost use Rattle.std.specs.Prelude.{ℕ, ◌+◌, ◌*◌, length};
-ghost use Rattle.nx_top.specs.declared.image.ProgImage.{ProgImage};
+ghost use Rattle.nx_ram.specs.declared.prog_image.ProgImage.{ProgImage};
 ghost use Rattle.nx_top.specs.Program.{Program};
 ghost use Rattle.nx_top.specs.Runs.{Keeps};
 ghost use Rattle.nx_top.specs.IsCompiled.{FitsText, IsCompiled};

@@ -1,8 +1,5 @@
 ghost use Rattle.std.specs.Prelude.{◌≡◌, ◌+◌, ◌<◌, ◌^◌};
-ghost use Rattle.nx_top.specs.Layout.{page_up, data_start, stack_low, stack_high};
-
-/// The address at which the RAM begins.
-pub const RAM_START: u32 = 0x8000_0000;
+ghost use Rattle.nx_top.specs.Layout.{page_up, data_start};
 
 /// The bytes of the RAM.
 pub const RAM_BYTES: u32 = 4_194_304;
@@ -11,7 +8,10 @@ pub const RAM_BYTES: u32 = 4_194_304;
 pub const TEXT_START: u32 = 0x8004_0000;
 
 /// The bytes of a thread's stack.
-const STACK_BYTES: u32 = 8192;
+pub const STACK_BYTES: u32 = 8192;
+
+/// How many threads may live.
+pub const THREADS: u32 = 16;
 
 /// Rounded up to a page of 4096 bytes.
 fn page_up(bytes: u32) -> u32
@@ -29,20 +29,4 @@ pub fn data_start(text_length: u32) -> u32
     ensures small { result < 2 ^ 31 + 2 ^ 22 }
 {
     TEXT_START + page_up(text_length)
-}
-
-/// The lowest address of the program's stack, that of slot 1.
-pub fn stack_low(text_length: u32) -> u32
-    requires { text_length < 2 ^ 20 }
-    ensures { result ≡ stack_low text_length }
-{
-    data_start(text_length) + STACK_BYTES
-}
-
-/// The end of the program's stack.
-pub fn stack_high(text_length: u32) -> u32
-    requires { text_length < 2 ^ 20 }
-    ensures { result ≡ stack_high text_length }
-{
-    data_start(text_length) + 2 * STACK_BYTES
 }
