@@ -1,4 +1,6 @@
 pub mod ByteLemmas
+pub mod CallNames
+pub mod Finding
 pub mod Puts
 pub mod RegisterLemmas
 pub mod Stores

@@ -3,8 +3,10 @@
 #![tactic(auto)]
 
 mod bytes;
+mod calls;
 mod count;
 mod cursor;
+mod errno;
 mod kinds;
 mod laws;
 mod regs;
@@ -12,8 +14,10 @@ mod text;
 mod words;
 
 pub use bytes::Bytes;
+pub use calls::{KCall, Kind, each_call_has_its_name};
 pub use count::Count;
 pub use cursor::Cursor;
+pub use errno::Errno;
 pub use kinds::{Access, AluOp, Build, Cond, Mode};
 pub use laws::a_store_changes_its_bytes_alone;
 pub use regs::Regs;

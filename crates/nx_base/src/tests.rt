@@ -52,3 +52,19 @@ fn bytes_and_texts_take_memory(rt: HostRuntime) -> Result<(), Fail> {
     assert_eq!(rt; text.as_str(), "nuttx");
     Ok(())
 }
+
+#[test]
+fn calls_have_names_and_kinds(rt: HostRuntime) {
+    assert_eq!(rt;
+        KCall::named(b"nx_mq_timedreceive"),
+        Some(KCall::NxMqTimedreceive)
+    );
+    assert_eq!(rt; KCall::named(b"_exit"), Some(KCall::Exit));
+    assert_eq!(rt; KCall::named(b"exit"), None);
+    assert_eq!(rt; KCall::all().len(), 45);
+    let want = [Kind::Word, Kind::Out, Kind::Len, Kind::Out4];
+    assert_eq!(rt; KCall::MqReceive.kinds(), want.as_slice());
+    assert_eq!(rt; KCall::NxGetenv.name(), b"nx_getenv".as_slice());
+    assert!(rt; KCall::Getpid.gives_value() && !KCall::NxThreadExit.gives_value());
+    assert_eq!(rt; Errno::Emsgsize.number(), 90);
+}
