@@ -34,7 +34,14 @@ impl Config {
     pub fn value(&self, name: &str) -> Option<&Value>
         ensures { option_copied result ≡ value_kept (value_in self.now.values name.now) }
     {
-        match self.table.find(name.as_bytes()) {
+        self.value_of(name.as_bytes())
+    }
+
+    /// The same for a name in bytes.
+    pub fn value_of(&self, name: &[u8]) -> Option<&Value>
+        ensures { option_copied result ≡ value_kept (value_in self.now.values name.now) }
+    {
+        match self.table.find(name) {
             Some(kept) => kept.value.as_ref(),
             None => None,
         }

@@ -17,7 +17,8 @@ fn is_blank(byte: u8) -> bool
     byte == b' ' || byte == b'\t' || byte == b'\r'
 }
 
-fn trim_start(line: &[u8]) -> &[u8]
+/// The bytes without the blanks that they begin with.
+pub fn trim_start(line: &[u8]) -> &[u8]
     ensures { result.now ≡ drop_blanks line.now }
 {
     let mut rest = line;
@@ -43,7 +44,8 @@ fn trim_end(line: &[u8]) -> &[u8]
     rest
 }
 
-fn trimmed(line: &[u8]) -> &[u8]
+/// The bytes without the blanks at both ends: spaces, tabs and carriage returns.
+pub fn trimmed(line: &[u8]) -> &[u8]
     ensures { result.now ≡ trim line.now }
 {
     trim_end(trim_start(line))

@@ -1,0 +1,4 @@
+pub mod Judging
+pub mod KindLists
+pub mod OneTable
+pub mod RecordCounts

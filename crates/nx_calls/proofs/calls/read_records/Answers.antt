@@ -1,0 +1,9 @@
+use Rattle.std.proofs.Common.{drop}
+use Rattle.std.proofs.Math.ListN.{drop_of_length-le}
+use Rattle.nx_calls.proofs.Judging.{leads_end}
+use Rattle.nx_calls.proofs.calls.read_records.Goals as goal
+
+pub returns : goal.returns
+returns g c =
+    leads_end (g.M.Meanings.meaning c.args.meanings.now) _ c.loop-record.rows.items (drop c.loop-record.record-index c.args.records.now) c.args.records.now
+    (drop_of_length-le c.args.records.now c.loop-record-test.false) c.loop-record.invariant.1

@@ -1,0 +1,6 @@
+pub mod Answers
+pub mod Kinds
+pub mod Meanings
+pub mod Rows
+pub mod Table
+pub mod Types

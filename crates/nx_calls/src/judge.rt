@@ -1,0 +1,113 @@
+ghost use Rattle.std.specs.Prelude.{◌≡◌, ◌∷◌, [], List, ℕ, IfOk, map};
+ghost use Rattle.std.specs.List.{list_all};
+ghost use Rattle.nx_calls.specs.Rows.{is_ellipsis as is_ellipsis_field, parameters as parameters_of, begins_name as begins_name_text, is_c_name as is_c_name_text};
+ghost use Rattle.nx_calls.specs.Answers.{IsHeld, IsSaid};
+ghost use Rattle.nx_config.specs.Line.{is_name_byte as is_in_names};
+
+use crate::fault::{CallsKind, RowStop};
+use crate::row::{CallRow, declared_row};
+use crate::types::is_name_byte;
+use nx_conditions::{ConditionStop, Meanings, holds, read_condition};
+use std::alloc::{AllocError, Global};
+
+fn begins_name(name: &[u8]) -> bool
+    ensures { result ≡ begins_name_text name.now }
+{
+    match name {
+        [first, ..] => !(b'0' <= *first && *first <= b'9'),
+        [] => false,
+    }
+}
+
+fn are_name_bytes(name: &[u8]) -> bool
+    ensures { result ≡ list_all is_in_names name.now }
+{
+    name.iter().all(|byte| is_name_byte(*byte))
+}
+
+/// Whether these bytes are a name of C of at most 64 bytes.
+fn is_c_name(name: &[u8]) -> bool
+    ensures { result ≡ is_c_name_text name.now }
+{
+    begins_name(name) && name.len() <= 64 && are_name_bytes(name)
+}
+
+fn is_ellipsis(field: &[u8]) -> bool
+    ensures { result ≡ is_ellipsis_field field.now }
+{
+    field == b"...".as_slice()
+}
+
+/// The fields of parameters among these.
+fn parameters<'a>(alloc: Global, fields: &[&'a [u8]]) -> Result<Vec<&'a [u8]>, AllocError>
+    ensures { IfOk result (λ v. map (λ f. f.now) v.items ≡ parameters_of (map (λ f. f.now) fields.now)) }
+{
+    let mut kept = Vec::new(alloc);
+    for field in fields {
+        if is_ellipsis(field) {
+            continue;
+        }
+        kept.push(*field)?;
+    }
+    Ok(kept)
+}
+
+/// Whether the condition of a row holds.
+fn condition_holds<M: Meanings>(
+    alloc: Global,
+    text: &[u8],
+    meanings: &M,
+) -> Result<bool, ConditionStop>
+    ensures { IsHeld (M.meaning meanings.now) text.now result }
+{
+    if text.len() > 1024 {
+        return Err(ConditionStop::Bad);
+    }
+    match read_condition(alloc, text) {
+        Ok(condition) => Ok(holds(&condition, meanings)),
+        Err(stop) => Err(stop),
+    }
+}
+
+/// What a row of at least four fields says behind other rows, whatever its header file.
+fn said<M: Meanings>(
+    alloc: Global,
+    rows: &[CallRow],
+    name: &[u8],
+    condition: &[u8],
+    given: &[u8],
+    types: &[&[u8]],
+    meanings: &M,
+) -> Result<Option<CallRow>, RowStop>
+    ensures { (header : List ℕ) → IsSaid (M.meaning meanings.now) rows.now (name.now ∷ header ∷ condition.now ∷ given.now ∷ map (λ f. f.now) types.now) result }
+{
+    if !is_c_name(name) {
+        return Err(RowStop::Fault(CallsKind::BadName));
+    }
+    match condition_holds(alloc, condition, meanings) {
+        Err(ConditionStop::Memory) => Err(RowStop::Memory),
+        Err(ConditionStop::Bad) => Err(RowStop::Fault(CallsKind::BadCondition)),
+        Ok(false) => Ok(None),
+        Ok(true) => match parameters(alloc, types) {
+            Ok(types) => declared_row(alloc, rows, name, given, &types),
+            Err(_) => Err(RowStop::Memory),
+        },
+    }
+}
+
+/// What the fields of a row say behind other rows.
+pub(crate) fn judge<M: Meanings>(
+    alloc: Global,
+    rows: &[CallRow],
+    fields: &[&[u8]],
+    meanings: &M,
+) -> Result<Option<CallRow>, RowStop>
+    ensures { IsSaid (M.meaning meanings.now) rows.now (map (λ f. f.now) fields.now) result }
+{
+    match fields {
+        [name, _, condition, given, types @ ..] => {
+            said(alloc, rows, name, condition, given, types, meanings)
+        }
+        _ => Err(RowStop::Fault(CallsKind::FewFields)),
+    }
+}
