@@ -62,10 +62,9 @@ impl Machine {
     /// Makes instructions until a call, a trap or the count's limit, one tick for each, one that
     /// traps included.
     pub fn run<S: Space>(&mut self, space: &mut S, count: &mut Count) -> Stop
-        requires entered { IsEntered (S.world space.old) }
-        requires within { count.old.used ≤ count.old.limit }
+        requires { IsEntered (S.world space.old) }
         ensures limit { count.new.limit ≡ count.old.limit }
-        ensures within { count.new.used ≤ count.new.limit }
+        ensures within { count.old.used ≤ count.old.limit → count.new.used ≤ count.new.limit }
         ensures made { result ≡ Stop.Call → count.old.used < count.new.used }
         ensures stretch { record { regs = self.new; view = view_in (S.world space.new); left = count.new.limit - count.new.used; halt = halt_of result }
             ≡ stretch (count.old.limit - count.old.used) self.old (view_in (S.world space.old)) }
@@ -77,10 +76,9 @@ impl Machine {
 
 // Makes instructions until one doesn't go on, or the limit.
 fn stretch<S: Space>(regs: &mut Regs, space: &mut S, count: &mut Count) -> Stop
-    requires entered { IsEntered (S.world space.old) }
-    requires within { count.old.used ≤ count.old.limit }
+    requires { IsEntered (S.world space.old) }
     ensures limit { count.new.limit ≡ count.old.limit }
-    ensures within { count.new.used ≤ count.new.limit }
+    ensures within { count.old.used ≤ count.old.limit → count.new.used ≤ count.new.limit }
     ensures made { result ≡ Stop.Call → count.old.used < count.new.used }
     ensures stretch { record { regs = regs.new; view = view_in (S.world space.new); left = count.new.limit - count.new.used; halt = halt_of result }
         ≡ stretch (count.old.limit - count.old.used) regs.old (view_in (S.world space.old)) }

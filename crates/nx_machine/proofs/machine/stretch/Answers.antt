@@ -9,7 +9,7 @@ pub loop-regs-preserved : goal.loop-regs-preserved
 loop-regs-preserved g c = record {
   entered = entered_stays _ _ c.in-Goes.ensures.only c.loop-regs.invariant.entered;
   later = omega (arith, c.loop-regs-test.ensures.counted, c.loop-regs.invariant.later);
-  within = omega (arith, c.loop-regs-test.ensures.counted, c.loop-regs-test.ensures.limit);
+  within = λ h. omega (arith, c.loop-regs-test.ensures.counted, c.loop-regs-test.ensures.limit);
   limit = c.tick.ensures.limit ∙ c.loop-regs.invariant.limit;
   rest = sym (stretch_more _ _ _ _ _ (omega (arith, c.loop-regs-test.ensures.counted)) c.in-Goes.ensures.turn) ∙ c.loop-regs.invariant.rest;
   only = only_trans _ _ _ c.loop-regs.invariant.only c.in-Goes.ensures.only;

@@ -11,7 +11,7 @@ invariant-loop-regs g l =
     record {
       entered : IsEntered (world l.space);
       later : l.fn.count.used ≤ l.count.used;
-      within : l.count.used ≤ l.count.limit;
+      within : l.fn.count.used ≤ l.fn.count.limit → l.count.used ≤ l.count.limit;
       limit : l.count.limit ≡ l.fn.count.limit;
       rest : stretch (l.count.limit - l.count.used) l.regs (view_in (world l.space)) ≡ stretch (l.fn.count.limit - l.fn.count.used) l.fn.regs (view_in (world l.fn.space));
       only : OnlyEntered (world l.fn.space) (world l.space);
