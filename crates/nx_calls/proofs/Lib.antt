@@ -1,4 +1,5 @@
 pub mod Judging
 pub mod KindLists
+pub mod Numbered
 pub mod OneTable
 pub mod RecordCounts

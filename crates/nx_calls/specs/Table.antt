@@ -1,5 +1,5 @@
 -- The call table of a text.
-use Rattle.std.specs.Prelude.{◌≡◌, ℕ, ◌+◌, List, [], ◌∷◌, ◌++◌, map, Option, None, Some, Result, Ok, Err}
+use Rattle.std.specs.Prelude.{◌≡◌, ℕ, ◌+◌, ◌≤◌, List, [], ◌∷◌, ◌++◌, length, map, Option, None, Some, Result, Ok, Err}
 use Rattle.csv.specs.Reading.{AreRecords, default_config, strip_bom}
 use Rattle.csv.specs.declared.parser.State.TheVariants as st
 use Rattle.nx_conditions.specs.declared.meaning.Meaning.{Meaning}
@@ -9,6 +9,15 @@ use Rattle.nx_calls.specs.declared.fault.CallsFault.{CallsFault}
 use Rattle.nx_calls.specs.declared.fault.CallsFault.TheVariants as fault
 use Rattle.nx_calls.specs.declared.row.CallRow.{CallRow}
 use Rattle.nx_calls.specs.Rows.{Says}
+
+-- rows are numbered one by one from a number on
+abbrev pub AreNumbered : ℕ → List CallRow → Type 0
+AreNumbered n [] = Unit {0}
+AreNumbered n (row ∷ rows) = (row.number ≡ n) × AreNumbered (n + 1) rows
+
+-- at most 512 rows, numbered from 16 on
+abbrev pub IsInPlace : List CallRow → Type 0
+IsInPlace rows = (length rows ≤ 512) × AreNumbered 16 rows
 
 -- what records give, of which the first has this number, behind these rows: all rows, or the first fault
 pub data Reads (means : List ℕ → Option Meaning) : ℕ → List CallRow → List (List (List ℕ)) → Result (List CallRow) CallsFault → Type 0 where

@@ -1,7 +1,7 @@
 ghost use Rattle.std.specs.Prelude.{◌≡◌, ◌+◌, ◌<◌, ◌≤◌, ◌^◌, [], length, map, IfOk};
 ghost use Rattle.csv.specs.Records.{fields_of};
 ghost use Rattle.nx_calls.specs.Answers.{Follows, fault_of};
-ghost use Rattle.nx_calls.specs.Table.{IsRead, IsReadOf};
+ghost use Rattle.nx_calls.specs.Table.{IsInPlace, IsRead, IsReadOf};
 
 use crate::fault::{CallsFault, RowStop};
 use crate::judge::judge;
@@ -21,16 +21,20 @@ pub struct Calls {
 impl Model for Calls {
     ghost use Rattle.std.specs.Prelude.{List};
     ghost use Rattle.nx_calls.specs.declared.row.CallRow.{CallRow};
+    ghost use Rattle.nx_calls.specs.Table.{IsInPlace};
 
     ghost Value = { List CallRow };
 
     ghost view = { λ c. c.rows.items };
+
+    ghost invariant = { λ c. IsInPlace c.rows.items };
 }
 
 impl Calls {
-    /// The rows.
+    /// The rows, numbered one by one from 16 on.
     pub fn rows(&self) -> &[CallRow]
-        ensures { result.now ≡ self.now }
+        ensures value { result.now ≡ self.now }
+        ensures in_place { IsInPlace result.now }
     {
         self.rows.as_slice()
     }
