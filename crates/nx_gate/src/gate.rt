@@ -1,0 +1,82 @@
+ghost use Rattle.std.specs.Prelude.{◌≡◌, IfOk, map};
+ghost use Rattle.std.specs.Option.{option_copied};
+ghost use Rattle.nx_gate.specs.Gates.{gate_of as gate_of_row, gate_numbered, AreSmall};
+
+use arrayvec::ArrayVec;
+use nx_base::{Bytes, KCall, Kind};
+use nx_calls::{CallRow, Calls};
+use std::alloc::{AllocError, Global};
+use std::marker::Model;
+
+/// The gate of a call. It has the fields of the call's row.
+#[derive(Debug, Drop)]
+pub struct Gate {
+    pub name: Bytes,
+    /// The number by which a program makes the call.
+    pub number: u16,
+    pub kinds: ArrayVec<Kind, 6>,
+    /// Whether its return type isn't `void`.
+    pub returns: bool,
+    /// The call of this name, if the kernel has one.
+    pub kernel: Option<KCall>,
+}
+
+fn gate_of(alloc: Global, row: &CallRow) -> Result<Gate, AllocError>
+    ensures { IfOk result (λ gate. gate ≡ gate_of_row row.now) }
+{
+    let name = Bytes::from_slice(alloc, row.name.as_slice())?;
+    Ok(Gate {
+        name,
+        number: row.number,
+        kinds: row.kinds.clone()?,
+        returns: row.returns,
+        kernel: row.kernel,
+    })
+}
+
+/// The gates of a call table, in the order of its rows.
+#[derive(Debug, Drop)]
+pub struct Gates {
+    gates: Vec<Gate>,
+}
+
+impl Model for Gates {
+    ghost use Rattle.std.specs.Prelude.{List};
+    ghost use Rattle.nx_gate.specs.declared.gate.Gate.{Gate};
+    ghost use Rattle.nx_gate.specs.Gates.{AreSmall};
+
+    ghost Value = { List Gate };
+
+    ghost view = { λ g. g.gates.items };
+
+    ghost invariant = { λ g. AreSmall g.gates.items };
+}
+
+impl Gates {
+    /// The gate of a number, if there is one.
+    pub fn find(&self, number: u32) -> Option<&Gate>
+        ensures { option_copied result ≡ gate_numbered number self.now }
+    {
+        self.gates.iter().find(|gate| gate.number as u32 == number)
+    }
+
+    /// The gates, whose numbers are from 16 to 527.
+    pub fn as_slice(&self) -> &[Gate]
+        ensures value { result.now ≡ self.now }
+        ensures small { AreSmall result.now }
+    {
+        self.gates.as_slice()
+    }
+}
+
+/// The gates of a call table: one for each row.
+pub fn plan(alloc: Global, calls: &Calls) -> Result<Gates, AllocError>
+    ensures { IfOk result (λ gates. gates ≡ map gate_of_row calls.now) }
+{
+    let mut gates = Vec::new(alloc);
+    for row in calls.rows() {
+        let gate = gate_of(alloc, row)?;
+        gates.push(gate)?;
+    }
+    Ok(Gates { gates })
+}
