@@ -4,3 +4,4 @@ pub mod Finding
 pub mod Puts
 pub mod RegisterLemmas
 pub mod Stores
+mod Outputs

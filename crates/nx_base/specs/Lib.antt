@@ -4,5 +4,6 @@ pub mod Counted
 pub mod CursorAt
 pub mod ErrorNumbers
 pub mod KernelCalls
+pub mod Replies
 pub mod Registers
 pub mod Views

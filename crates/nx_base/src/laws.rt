@@ -1,4 +1,8 @@
-ghost use Rattle.std.specs.Prelude.{◌≡◌, ℕ, ◌^◌, ◌<◌, Ok};
+ghost use Rattle.std.specs.Prelude.{◌≡◌, ℕ, ◌^◌, ◌<◌, ◌≤◌, min, List, [], ◌∷◌, length, Ok};
+ghost use Rattle.nx_base.specs.declared.calls.Kind.{Kind};
+ghost use Rattle.nx_base.specs.declared.calls.KCall.{KCall};
+ghost use Rattle.nx_base.specs.KernelCalls.{kinds_of};
+ghost use Rattle.nx_base.specs.Replies.{output_rooms, FitsCall};
 ghost use Rattle.nx_base.specs.Views.{View, fetch_word, load_bytes, store_bytes, AreApart};
 
 /// A law: after a store a load of its bytes gives what was stored, where they may be loaded at
@@ -7,4 +11,13 @@ pub fn a_store_changes_its_bytes_alone()
     ensures same { (v new : View) (at n x y : ℕ) → x < 256 ^ n → load_bytes v at n ≡ Ok y → store_bytes v at n x ≡ Ok new → load_bytes new at n ≡ Ok x }
     ensures load { (v new : View) (at n x b m : ℕ) → AreApart at n b m → store_bytes v at n x ≡ Ok new → load_bytes new b m ≡ load_bytes v b m }
     ensures fetch { (v new : View) (at n x b : ℕ) → AreApart at n b 4 → store_bytes v at n x ≡ Ok new → fetch_word new b ≡ fetch_word v b }
+{}
+
+/// A law: the kernel writes at most two outputs for each of its calls, and a reply without bytes
+/// fits every call. Of `mq_receive` the outputs are a message of at most its size and of at most
+/// 4,096 bytes, and a priority of four bytes.
+pub fn a_reply_has_two_outputs()
+    ensures two { (c : KCall) (words : List ℕ) → length (output_rooms (kinds_of c) words) ≤ 2 }
+    ensures none { (kinds : List Kind) (words : List ℕ) → FitsCall kinds words ([] ∷ [] ∷ []) }
+    ensures receive { (queue at size priority : ℕ) → output_rooms (kinds_of KCall.MqReceive) (queue ∷ at ∷ size ∷ priority ∷ []) ≡ min size 4096 ∷ 4 ∷ [] }
 {}
