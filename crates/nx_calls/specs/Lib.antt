@@ -4,3 +4,4 @@ pub mod Meanings
 pub mod Rows
 pub mod Table
 pub mod Types
+pub mod FaultTexts

@@ -4,7 +4,7 @@ use Rattle.nx_conditions.specs.declared.meaning.Meaning.{Meaning}
 use Rattle.nx_conditions.specs.declared.meaning.Meaning.TheVariants as meaning
 use Rattle.nx_config.specs.declared.value.Value.{Value}
 use Rattle.nx_config.specs.declared.value.Value.TheVariants as value
-use Rattle.nx_config.specs.Settings.{Settings, value_kept}
+use Rattle.nx_config.specs.Settings.{Settings, last_in, value_kept}
 use Rattle.nx_config.specs.Tables.{value_in}
 
 -- what a value means
@@ -17,3 +17,7 @@ meaning_of (Some (value.Text text)) = Some meaning.Other
 -- what a name means
 abbrev pub meaning_in : Settings → List ℕ → Option Meaning
 meaning_in settings name = meaning_of (value_kept (value_in settings.values name))
+
+-- what a name means by the text of a configuration
+abbrev pub meaning_by : List ℕ → List ℕ → Option Meaning
+meaning_by text name = meaning_of (value_kept (last_in text name))

@@ -1,26 +1,40 @@
+ghost use Rattle.std.specs.Prelude.{◌≡◌};
+ghost use Rattle.nx_calls.specs.FaultTexts.{kind_text};
+
 use thiserror::Error;
 
 /// What is wrong with a row of a call table.
 #[derive(Clone, Copy, Debug, PartialEq, Eq, Error)]
+#[error("{text}", text = self.text())]
 pub enum CallsKind {
-    #[error("few fields")]
     FewFields,
-    #[error("bad name")]
     BadName,
-    #[error("bad condition")]
     BadCondition,
-    #[error("union type")]
     UnionType,
-    #[error("bad type")]
     BadType,
-    #[error("too many parameters")]
     TooManyParameters,
-    #[error("name twice")]
     NameTwice,
-    #[error("signature")]
     Signature,
-    #[error("limit")]
     Limit,
+}
+
+impl CallsKind {
+    /// The words by which a refusal names it.
+    pub fn text(self) -> &'static str
+        ensures { result.now ≡ kind_text self }
+    {
+        match self {
+            CallsKind::FewFields => "few fields",
+            CallsKind::BadName => "bad name",
+            CallsKind::BadCondition => "bad condition",
+            CallsKind::UnionType => "union type",
+            CallsKind::BadType => "bad type",
+            CallsKind::TooManyParameters => "too many parameters",
+            CallsKind::NameTwice => "name twice",
+            CallsKind::Signature => "signature",
+            CallsKind::Limit => "limit",
+        }
+    }
 }
 
 /// Why there is no call table.

@@ -7,3 +7,4 @@ pub mod Quoted
 pub mod Reading
 pub mod Settings
 pub mod Tables
+pub mod FaultTexts

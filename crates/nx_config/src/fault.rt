@@ -1,20 +1,34 @@
+ghost use Rattle.std.specs.Prelude.{◌≡◌};
+ghost use Rattle.nx_config.specs.FaultTexts.{kind_text};
+
 use thiserror::Error;
 
 /// What is wrong with a configuration.
 #[derive(Clone, Copy, Debug, PartialEq, Eq, Error)]
+#[error("{text}", text = self.text())]
 pub enum ConfigKind {
-    #[error("bad line")]
     BadLine,
-    #[error("bad number")]
     BadNumber,
-    #[error("limit")]
     Limit,
-    #[error("out of range")]
     OutOfRange,
-    #[error("two builds")]
     TwoBuilds,
-    #[error("no build")]
     NoBuild,
+}
+
+impl ConfigKind {
+    /// The words by which a refusal names it.
+    pub fn text(self) -> &'static str
+        ensures { result.now ≡ kind_text self }
+    {
+        match self {
+            ConfigKind::BadLine => "bad line",
+            ConfigKind::BadNumber => "bad number",
+            ConfigKind::Limit => "limit",
+            ConfigKind::OutOfRange => "out of range",
+            ConfigKind::TwoBuilds => "two builds",
+            ConfigKind::NoBuild => "no build",
+        }
+    }
 }
 
 /// Why there is no configuration, or no choice of a build.
