@@ -7,16 +7,17 @@ use Rattle.std.specs.declared.alloc.AllocError.{AllocError}
 use Rattle.std.proofs.lemmas.Bool.Decides.{nat_tests}
 use Rattle.nx_top.specs.declared.answer.Answer.{Answer}
 use Rattle.nx_top.specs.declared.answer.Answer.TheVariants.{NotBuilt}
-use Rattle.nx_top.specs.Words.{Form, form_of, form_with, is_name, is_word_byte, is_equals, is_option, is_source}
+use Rattle.std.specs.Option.{option_map}
+use Rattle.nx_top.specs.Words.{RunForm, GatesForm, CommandLine, Run, Gates, HasName, form_of, run_form, gates_form, form_with, is_name, is_word_byte, is_equals, is_option, is_source}
 use Rattle.nx_top.specs.Inputs.{Got, FirstBad}
 use Rattle.nx_top.specs.Top.{IsJudged}
 
 -- the refusal of a file that is the first bad one
-pub judged : (r : Result Answer AllocError) (form : Form) (got : Got) (file : List ℕ) → FirstBad form got file → IfOk r (λ a. a ≡ NotBuilt file) → IfOk r (λ a. IsJudged a form got)
+pub judged : (r : Result Answer AllocError) (form : RunForm) (got : Got) (file : List ℕ) → FirstBad form got file → IfOk r (λ a. a ≡ NotBuilt file) → IfOk r (λ a. IsJudged a form got)
 judged (Ok a) form got file bad e = subst (λ (x : Answer). IsJudged x form got) (sym e) bad
 judged (Err e) form got file bad h = tt
 
-chosen : (b : Bool) (o : Option Form) (f : Form) → (if b then o else None) ≡ Some f → (b ≡ true) × (o ≡ Some f)
+chosen : (b : Bool) (o : Option RunForm) (f : RunForm) → (if b then o else None) ≡ Some f → (b ≡ true) × (o ≡ Some f)
 chosen true o f e = (refl, e)
 chosen false o f e = absurd cc
 
@@ -26,21 +27,38 @@ short true n true false e = grind (arith, nat_tests)
 short true n false c e = grind (arith, nat_tests)
 short false n b c e = absurd cc
 
-named_with : (config calls script word : List ℕ) (f : Form) → form_with config calls script word ≡ Some f → length f.name ≤ 32
+named_with : (config calls script word : List ℕ) (f : RunForm) → form_with config calls script word ≡ Some f → length f.name ≤ 32
 named_with config calls script word f e =
     let c = chosen (list_any is_equals word && is_name (before_first is_equals word) && is_source (after_first is_equals word)) (Some (record { config = config; calls = calls; script = script; name = before_first is_equals word; file = after_first is_equals word })) f e in
     let name : before_first is_equals word ≡ f.name = let s = c.1 in cc in
     let n = short (list_any is_equals word) (length (before_first is_equals word)) (list_all is_word_byte (before_first is_equals word)) (is_source (after_first is_equals word)) c.0 in
     subst (λ (x : List ℕ). length x ≤ 32) name n
 
+named_run : (words : List (List ℕ)) (f : RunForm) → run_form words ≡ Some f → length f.name ≤ 32
+named_run [] f e = absurd cc
+named_run (a ∷ []) f e = absurd cc
+named_run (a ∷ b ∷ []) f e = absurd cc
+named_run (a ∷ b ∷ c ∷ []) f e = absurd cc
+named_run (a ∷ b ∷ c ∷ d ∷ []) f e =
+    let h = chosen (not (is_option a) && not (is_option b) && not (is_option c)) (form_with a b c d) f e in
+    named_with a b c d f h.1
+named_run (a ∷ b ∷ c ∷ d ∷ x ∷ xs) f e = absurd cc
+
+named_some : (o : Option RunForm) (f : CommandLine) → ((g : RunForm) → o ≡ Some g → length g.name ≤ 32) → option_map Run o ≡ Some f → HasName f
+named_some None f h e = let q : None ≡ Some f = e in absurd cc
+named_some (Some g) f h e = let q : Run g ≡ f = cc in subst HasName q (h g refl)
+
+named_gates : (o : Option GatesForm) (f : CommandLine) → option_map Gates o ≡ Some f → HasName f
+named_gates None f e = let q : None ≡ Some f = e in absurd cc
+named_gates (Some g) f e = let q : Gates g ≡ f = cc in subst HasName q tt
+
+named_by : (run gates : Bool) (words : List (List ℕ)) (f : CommandLine)
+    → (if run then option_map Run (run_form words) else if gates then option_map Gates (gates_form words) else None) ≡ Some f → HasName f
+named_by true gates words f e = named_some (run_form words) f (named_run words) e
+named_by false true words f e = named_gates (gates_form words) f e
+named_by false false words f e = let q : None ≡ Some f = e in absurd cc
+
 -- the name in a form has at most 32 bytes
-pub named : (words : List (List ℕ)) (f : Form) → form_of words ≡ Some f → length f.name ≤ 32
-named [] f e = absurd cc
-named (a ∷ []) f e = absurd cc
-named (a ∷ b ∷ []) f e = absurd cc
-named (a ∷ b ∷ c ∷ []) f e = absurd cc
-named (a ∷ b ∷ c ∷ d ∷ []) f e = absurd cc
-named (a ∷ b ∷ c ∷ d ∷ g ∷ []) f e =
-    let h = chosen (bytes_eq a (codes "run") && not (is_option b) && not (is_option c) && not (is_option d)) (form_with b c d g) f e in
-    named_with b c d g f h.1
-named (a ∷ b ∷ c ∷ d ∷ g ∷ x ∷ xs) f e = absurd cc
+pub named : (words : List (List ℕ)) (f : CommandLine) → form_of words ≡ Some f → HasName f
+named [] f e = let q : None ≡ Some f = e in absurd cc
+named (command ∷ words) f e = named_by (bytes_eq command (codes "run")) (bytes_eq command (codes "gates")) words f e

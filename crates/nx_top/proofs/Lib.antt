@@ -8,6 +8,7 @@ pub mod CodeLemmas
 pub mod GuestLemmas
 pub mod JudgeLemmas
 pub mod KeepsProgram
+pub mod ListingLemmas
 pub mod Numbers
 pub mod Offsets
 pub mod Parts

@@ -1,6 +1,6 @@
 -- What was read of a list of files.
-use Rattle.std.specs.Prelude.{◌≡◌, ℕ, ◌+◌, ◌≤◌, nat_lt, if◌then◌else◌, List, [], ◌∷◌, length, take, map, slice_get, Option, Some, None, Result, Ok, Err}
-use Rattle.nx_outside.specs.Outside.{Told, Asked, Rose, content_of, longest}
+use Rattle.std.specs.Prelude.{◌≡◌, ℕ, ◌+◌, ◌≤◌, nat_lt, if◌then◌else◌, All, List, [], ◌∷◌, length, take, map, slice_get, Option, Some, None, Result, Ok, Err}
+use Rattle.nx_outside.specs.Outside.{Told, Asked, Rose, IsLong, content_of, longest}
 use Rattle.nx_outside.specs.declared.files.FileStop.{FileStop}
 use Rattle.nx_outside.specs.declared.files.FileStop.TheVariants.{Failed, TooLong, Memory}
 
@@ -37,3 +37,46 @@ ReadsOne (Ok got) old new name before now = Asked old new (name ∷ []) × GotAl
 ReadsOne (Err Failed) old new name before now = Asked old new (name ∷ []) × Rose before now
 ReadsOne (Err TooLong) old new name before now = ⊥
 ReadsOne (Err Memory) old new name before now = Unit {0}
+
+-- files hold these texts, where that is told
+abbrev pub HoldAll : Option Told → List (List ℕ) → List (List ℕ) → Type 0
+HoldAll None names texts = Unit {0}
+HoldAll (Some t) names texts = map (content_of t.contents) names ≡ map Some texts
+
+-- texts that a read hands out
+abbrev pub AreShort : List (List ℕ) → Type 0
+AreShort texts = All (λ text. length text ≤ longest) texts
+
+-- a file is too long, where that is told
+abbrev pub IsLongThere : Option Told → List ℕ → Type 0
+IsLongThere None name = Unit {0}
+IsLongThere (Some t) name = IsLong t name
+
+-- all files were asked, in their order, and held these texts
+pub record HaveTexts (names texts : List (List ℕ)) (old new : Option Told) : Type 0 where
+  pub asked : Asked old new names
+  pub held : HoldAll old names texts
+  pub short : AreShort texts
+
+-- the file at some place is too long, and was asked last, behind those before it, which held texts
+pub record StopsLong (names : List (List ℕ)) (name : List ℕ) (old new : Option Told) : Type 0 where
+  pub place : ℕ
+  pub named : slice_get names place ≡ Some name
+  pub asked : Asked old new (take (place + 1) names)
+  pub texts : List (List ℕ)
+  pub held : HoldAll old (take place names) texts
+  pub short : AreShort texts
+  pub long : IsLongThere old name
+
+-- why reading stopped at a file, where it stops at one that is too long too; want of memory says nothing
+abbrev pub IsStop : FileStop → List ℕ → List (List ℕ) → Option Told → Option Told → ℕ → ℕ → Type 0
+IsStop Failed name names old new before now = StopsAt names name old new × Rose before now
+IsStop TooLong name names old new before now = StopsLong names name old new
+IsStop Memory name names old new before now = Unit {0}
+
+-- one file's text was read, or why not
+abbrev pub ReadsText : Result (List ℕ) FileStop → Option Told → Option Told → List ℕ → ℕ → ℕ → Type 0
+ReadsText (Ok text) old new name before now = Asked old new (name ∷ []) × HoldAll old (name ∷ []) (text ∷ []) × (length text ≤ longest) × (before ≤ now)
+ReadsText (Err Failed) old new name before now = Asked old new (name ∷ []) × Rose before now
+ReadsText (Err TooLong) old new name before now = Asked old new (name ∷ []) × IsLongThere old name
+ReadsText (Err Memory) old new name before now = Unit {0}

@@ -2,7 +2,7 @@
 use Rattle.std.specs.Prelude.{◌≡◌, ℕ, false, List, [], ◌∷◌, ◌++◌, codes, Option, Some}
 use Rattle.std.specs.List.{list_any}
 use Rattle.std.specs.Str.{bytes_eq}
-use Rattle.nx_top.specs.Words.{Form}
+use Rattle.nx_top.specs.Words.{RunForm}
 use Rattle.nx_top.specs.Program.{Program, IsProgram}
 
 -- what the files held, where none stands for one that is longer than a read hands out
@@ -49,14 +49,14 @@ pub record IsScript (name : List ℕ) (got : Option (List ℕ)) : Type 0 where
   pub free : list_any (bytes_eq name) shell_words ≡ false
 
 -- every file has its form
-pub record IsBuilt (form : Form) (got : Got) (p : Program) : Type 0 where
+pub record IsBuilt (form : RunForm) (got : Got) (p : Program) : Type 0 where
   pub config : IsConfig got.config
   pub calls : IsCalls got.calls
   pub program : HasProgram got.program p
   pub script : IsScript form.name got.script
 
 -- the first file that has not its form, in the order in which they are examined
-pub data FirstBad (form : Form) (got : Got) (file : List ℕ) : Type 0 where
+pub data FirstBad (form : RunForm) (got : Got) (file : List ℕ) : Type 0 where
   Config : ¬ IsConfig got.config → file ≡ form.config → FirstBad form got file
   Calls : IsConfig got.config → ¬ IsCalls got.calls → file ≡ form.calls → FirstBad form got file
   Source : IsConfig got.config → IsCalls got.calls → ((p : Program) → ¬ HasProgram got.program p) → file ≡ form.file → FirstBad form got file

@@ -12,4 +12,6 @@ pub mod Reported
 pub mod FormSeen
 pub mod Reading
 pub mod FilesRead
+pub mod Refusals
+pub mod Listing
 pub mod Top

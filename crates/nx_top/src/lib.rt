@@ -5,6 +5,8 @@ mod answer;
 mod boot;
 mod build;
 mod compile;
+mod fault;
+mod gates;
 mod guest;
 mod image;
 mod inputs;

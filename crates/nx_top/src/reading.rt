@@ -1,6 +1,6 @@
 ghost use Rattle.std.specs.Prelude.{◌≡◌, ◌≤◌, map, length, OnOk, IfOk, IfErr};
 ghost use Rattle.nx_outside.specs.Outside.{Asked};
-ghost use Rattle.nx_top.specs.FilesRead.{GotAll, IsWhy, ReadsOne};
+ghost use Rattle.nx_top.specs.FilesRead.{GotAll, IsWhy, ReadsOne, HoldAll, AreShort, IsStop, ReadsText};
 
 use nx_base::Bytes;
 use nx_outside::{FileStop, Files};
@@ -51,4 +51,43 @@ pub fn read_files<'a, F: Files>(
         }
     }
     Ok(contents)
+}
+
+fn read_text<F: Files>(alloc: Global, name: &str, files: &mut F) -> Result<Bytes, FileStop>
+    ensures { ReadsText result (F.told files.old) (F.told files.new) name.now (F.faults files.old) (F.faults files.new) }
+{
+    let mut bytes = Vec::new(alloc);
+    match files.read(name, &mut bytes) {
+        Ok(()) => Ok(Bytes::from_vec(bytes)),
+        Err(stop) => Err(stop),
+    }
+}
+
+/// The texts that the files hold, in their order. Nothing is read behind one that cannot be read or
+/// is too long.
+pub fn read_texts<'a, F: Files>(
+    alloc: Global,
+    names: &[&'a str],
+    files: &mut F,
+) -> Result<Vec<Bytes>, ReadStop<'a>>
+    ensures asked { OnOk result (Asked (F.told files.old) (F.told files.new) (map (λ n. n.now) names.now)) }
+    ensures held { IfOk result (λ v. HoldAll (F.told files.old) (map (λ n. n.now) names.now) v.items) }
+    ensures short { IfOk result (λ v. AreShort v.items) }
+    ensures count { IfOk result (λ v. length v.items ≡ length names.now) }
+    ensures stops { IfErr result (λ e. IsStop e.why e.name.now (map (λ n. n.now) names.now) (F.told files.old) (F.told files.new) (F.faults files.old) (F.faults files.new)) }
+{
+    let mut texts = Vec::new(alloc);
+    for name in names {
+        let text = match read_text(alloc, name, files) {
+            Ok(text) => text,
+            Err(why) => return Err(ReadStop { why, name }),
+        };
+        if texts.push(text).is_err() {
+            return Err(ReadStop {
+                why: FileStop::Memory,
+                name,
+            });
+        }
+    }
+    Ok(texts)
 }

@@ -3,6 +3,9 @@ use nx_outside::{MemFiles, MemSink};
 use std::alloc::{AllocError, Global};
 use std::test::Fail;
 
+mod gates;
+mod standard;
+
 const CONFIG: &str = "CONFIG_BUILD_FLAT=y\n";
 
 const CALLS: &str = "\"write\",\"nxsim.h\",\"\",\"int\",\"int\",\"const void *\",\"size_t\"\n";

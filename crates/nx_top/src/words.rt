@@ -1,17 +1,31 @@
-ghost use Rattle.std.specs.Prelude.{◌≡◌, [], ◌∷◌, map};
+ghost use Rattle.std.specs.Prelude.{◌≡◌, map};
 ghost use Rattle.std.specs.List.{list_all};
 ghost use Rattle.std.specs.Option.{option_map};
-ghost use Rattle.nx_top.specs.Words.{form_of, form_with as form_with_text, is_word_byte as is_word_byte_value, is_name as is_name_text, is_option as is_option_text, is_source as is_source_text};
-ghost use Rattle.nx_top.specs.FormSeen.{form_seen};
+ghost use Rattle.nx_top.specs.Words.{form_of, run_form, gates_form, form_with as form_with_text, is_word_byte as is_word_byte_value, is_name as is_name_text, is_option as is_option_text, is_source as is_source_text};
+ghost use Rattle.nx_top.specs.FormSeen.{form_seen, run_seen, gates_seen};
 
 /// The words of a run: the names of its four files, and the name of its program.
 #[derive(Clone, Copy, Debug)]
-pub struct FormWords<'a> {
+pub struct RunWords<'a> {
     pub config: &'a str,
     pub calls: &'a str,
     pub script: &'a str,
     pub name: &'a str,
     pub file: &'a str,
+}
+
+/// The words of a listing of gates: the names of its two files.
+#[derive(Clone, Copy, Debug)]
+pub struct GatesWords<'a> {
+    pub config: &'a str,
+    pub calls: &'a str,
+}
+
+/// A command with its words.
+#[derive(Clone, Copy, Debug)]
+pub enum CommandWords<'a> {
+    Run(RunWords<'a>),
+    Gates(GatesWords<'a>),
 }
 
 /// Whether a byte is a letter, a digit or an underscore of ASCII.
@@ -53,14 +67,14 @@ fn form_with<'a>(
     calls: &'a str,
     script: &'a str,
     word: &'a str,
-) -> Option<FormWords<'a>>
-    ensures { option_map form_seen result ≡ form_with_text config.now calls.now script.now word.now }
+) -> Option<RunWords<'a>>
+    ensures { option_map run_seen result ≡ form_with_text config.now calls.now script.now word.now }
 {
     let (name, file) = word.split_once('=')?;
     if !is_name(name.as_bytes()) || !is_source(file) {
         return None;
     }
-    Some(FormWords {
+    Some(RunWords {
         config,
         calls,
         script,
@@ -69,29 +83,43 @@ fn form_with<'a>(
     })
 }
 
-// The same behind a first word, which is to be `run`.
-fn form_behind<'a>(
-    command: &str,
-    config: &'a str,
-    calls: &'a str,
-    script: &'a str,
-    word: &'a str,
-) -> Option<FormWords<'a>>
-    ensures { option_map form_seen result ≡ form_of (command.now ∷ config.now ∷ calls.now ∷ script.now ∷ word.now ∷ []) }
+// The words behind `run`.
+fn run_words<'a>(words: &[&'a str]) -> Option<RunWords<'a>>
+    ensures { option_map run_seen result ≡ run_form (map (λ w. w.now) words.now) }
 {
-    if command != "run" || is_option(config) || is_option(calls) || is_option(script) {
+    let [config, calls, script, word] = words else {
+        return None;
+    };
+    if is_option(config) || is_option(calls) || is_option(script) {
         return None;
     }
     form_with(config, calls, script, word)
 }
 
-/// The form of the words `run CONFIG CALLS SCRIPT NAME=FILE`, without the program's own word in
-/// front. Any other words have none.
-pub fn form<'a>(words: &[&'a str]) -> Option<FormWords<'a>>
+// The words behind `gates`.
+fn gates_words<'a>(words: &[&'a str]) -> Option<GatesWords<'a>>
+    ensures { option_map gates_seen result ≡ gates_form (map (λ w. w.now) words.now) }
+{
+    let [config, calls] = words else {
+        return None;
+    };
+    if is_option(config) || is_option(calls) {
+        return None;
+    }
+    Some(GatesWords { config, calls })
+}
+
+/// The form of the words of a command line, without the program's own word in front:
+/// `run CONFIG CALLS SCRIPT NAME=FILE` or `gates CONFIG CALLS`. Any other words have none.
+pub fn form<'a>(words: &[&'a str]) -> Option<CommandWords<'a>>
     ensures { option_map form_seen result ≡ form_of (map (λ w. w.now) words.now) }
 {
-    match words {
-        [command, config, calls, script, word] => form_behind(command, config, calls, script, word),
+    let [command, words @ ..] = words else {
+        return None;
+    };
+    match *command {
+        "run" => run_words(words).map(CommandWords::Run),
+        "gates" => gates_words(words).map(CommandWords::Gates),
         _ => None,
     }
 }
