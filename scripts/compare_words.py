@@ -22,7 +22,8 @@ import subprocess
 import sys
 import tempfile
 
-PREFIX = "riscv64-unknown-elf-"
+from gnu_assembler import PREFIX, assemble
+
 PROGRAM = os.path.join(os.path.dirname(os.path.abspath(__file__)), "..", "crates", "nx_words")
 SEED = 20191213
 RANDOM_WORDS = 150_000
@@ -95,17 +96,6 @@ def assembler_lines():
                 fields["offset"] = fields["target"]
             lines.append((f"{name} {text}".strip(), listing(name, fields)))
     return lines
-
-
-def assemble(folder, lines):
-    """The word of each line."""
-    source, made, raw = (os.path.join(folder, name) for name in ("lines.s", "lines.o", "lines.bin"))
-    with open(source, "w") as file:
-        file.write("".join(f"    {line}\n" for line in lines))
-    subprocess.run([PREFIX + "as", "-march=rv32im", "-mabi=ilp32", "-o", made, source], check=True)
-    subprocess.run([PREFIX + "objcopy", "-O", "binary", "-j", ".text", made, raw], check=True)
-    with open(raw, "rb") as file:
-        return [word for (word,) in struct.iter_unpack("<I", file.read())]
 
 
 def chosen_words():

@@ -14,12 +14,12 @@ import csv
 import itertools
 import os
 import re
-import struct
 import subprocess
 import sys
 import tempfile
 
-PREFIX = "riscv64-unknown-elf-"
+from gnu_assembler import assemble
+
 NXSIM = os.path.join(os.path.dirname(os.path.abspath(__file__)), "..", "nxsim")
 FIRST_NUMBER = 16
 MOST_PARAMETERS = 6
@@ -93,26 +93,12 @@ def proxy(number, count):
     return moves + [f"addi a0, x0, {number}", "ecall", "jalr x0, ra, 0"]
 
 
-def assemble(lines):
-    """The word of each line."""
-    with tempfile.TemporaryDirectory() as folder:
-        source, made, raw = (os.path.join(folder, name) for name in ("lines.s", "lines.o", "lines.bin"))
-        with open(source, "w") as file:
-            file.write("".join(f"    {line}\n" for line in lines))
-        subprocess.run([PREFIX + "as", "-march=rv32im", "-mabi=ilp32", "-o", made, source], check=True)
-        subprocess.run([PREFIX + "objcopy", "-O", "binary", "-j", ".text", made, raw], check=True)
-        with open(raw, "rb") as file:
-            words = [word for (word,) in struct.iter_unpack("<I", file.read())]
-    if len(words) != len(lines):
-        sys.exit(f"as: {len(words)} words of {len(lines)} lines")
-    return words
-
-
 def listing(table):
     """The lines of the listing."""
     rows = read_rows(table)
     proxies = [proxy(FIRST_NUMBER + place, len(kinds)) for place, (_, kinds) in enumerate(rows)]
-    words = iter(assemble([line for lines in proxies for line in lines]))
+    with tempfile.TemporaryDirectory() as folder:
+        words = iter(assemble(folder, [line for lines in proxies for line in lines]))
     lines = []
     for place, (name, kinds) in enumerate(rows):
         digits = [f"{next(words):08x}" for _ in proxies[place]]
