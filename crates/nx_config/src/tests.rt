@@ -214,6 +214,11 @@ fn builds(rt: HostRuntime) -> Result<(), Fail> {
             ConfigKind::NoBuild,
         ),
         (
+            "CONFIG_BUILD_FLAT=y\nCONFIG_BUILD_KERNEL=y\n",
+            2,
+            ConfigKind::TwoBuilds,
+        ),
+        (
             "CONFIG_BUILD_FLAT=y\nX=y\nCONFIG_BUILD_KERNEL=y",
             3,
             ConfigKind::TwoBuilds,
