@@ -13,10 +13,10 @@ pub fn a_store_changes_its_bytes_alone()
     ensures fetch { (v new : View) (at n x b : ℕ) → AreApart at n b 4 → store_bytes v at n x ≡ Ok new → fetch_word new b ≡ fetch_word v b }
 {}
 
-/// A law: the kernel writes at most two outputs for each of its calls, and a reply without bytes
-/// fits every call. Of `mq_receive` the outputs are a message of at most its size and of at most
+/// A law: no call of the kernel's table has more than two outputs, and a reply without bytes fits
+/// every call. Of `mq_receive` the outputs are a message of at most its size and of at most
 /// 4,096 bytes, and a priority of four bytes.
-pub fn a_reply_has_two_outputs()
+pub fn a_call_has_at_most_two_outputs()
     ensures two { (c : KCall) (words : List ℕ) → length (output_rooms (kinds_of c) words) ≤ 2 }
     ensures none { (kinds : List Kind) (words : List ℕ) → FitsCall kinds words ([] ∷ [] ∷ []) }
     ensures receive { (queue at size priority : ℕ) → output_rooms (kinds_of KCall.MqReceive) (queue ∷ at ∷ size ∷ priority ∷ []) ≡ min size 4096 ∷ 4 ∷ [] }

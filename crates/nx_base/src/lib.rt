@@ -19,7 +19,7 @@ pub use count::Count;
 pub use cursor::Cursor;
 pub use errno::Errno;
 pub use kinds::{Access, AluOp, Build, Cond, Mode};
-pub use laws::{a_reply_has_two_outputs, a_store_changes_its_bytes_alone};
+pub use laws::{a_call_has_at_most_two_outputs, a_store_changes_its_bytes_alone};
 pub use regs::Regs;
 pub use text::Text;
 pub use words::{get_le32, put_le32};

@@ -10,7 +10,7 @@ use Rattle.nx_outside.specs.Outside.{Told, Asked, Rose, content_of, longest}
 use Rattle.nx_outside.proofs.Asks.{Asked-append}
 use Rattle.nx_outside.specs.declared.files.FileStop.{FileStop}
 use Rattle.nx_outside.specs.declared.files.FileStop.TheVariants.{TooLong, Failed, Memory}
-use Rattle.nx_top.specs.FilesRead.{held_of, GotAll, HoldAll, AreShort, IsLongThere, StopsAt, IsWhy, IsStop, ReadsOne, ReadsText}
+use Rattle.nx_top.specs.FilesRead.{held_of, GotAll, HoldAll, AreShort, IsLongThere, StopsAt, StopsBehind, IsWhy, IsStop, ReadsOne, ReadsText}
 
 abbrev text : Bor (List ℕ) → List ℕ
 text n = n.now
@@ -116,19 +116,25 @@ texts_more old mid new names texts i d one before between now lt r read n =
       count = n;
     }
 
+stops_behind : (old mid new : Option Told) (names : List (Bor (List ℕ))) (texts : List (List ℕ)) (i : ℕ) (d : Bor (List ℕ)) (before between : ℕ) → i < length names
+    → ReadTexts old mid names texts i before between → Asked mid new ((get_or names i d).now ∷ []) → StopsBehind (map (λ n. n.now) names) (get_or names i d).now old new
+stops_behind old mid new names texts i d before between lt r one = record {
+  place = i;
+  named = named_at names i d lt;
+  asked = asked_at old mid new names i d lt r.asked one;
+  texts = texts;
+  held = subst (λ (xs : List (List ℕ)). HoldAll old xs texts) (sym (take-map text i names)) r.held;
+  short = r.short;
+}
+
 pub is_stop : (why : FileStop) (old mid new : Option Told) (names : List (Bor (List ℕ))) (texts : List (List ℕ)) (i : ℕ) (d : Bor (List ℕ)) (before between now : ℕ) → i < length names
     → ReadTexts old mid names texts i before between → ReadsText (Err why) mid new (get_or names i d).now between now → IsStop why (get_or names i d).now (map (λ n. n.now) names) old new before now
 is_stop Failed old mid new names texts i d before between now lt r one =
     let rose : Rose between now = one.1 in
     let later = r.later in
-    (stops_at old mid new names i d lt r.asked one.0, omega arith)
+    (stops_behind old mid new names texts i d before between lt r one.0, omega arith)
 is_stop TooLong old mid new names texts i d before between now lt r one = record {
-  place = i;
-  named = named_at names i d lt;
-  asked = asked_at old mid new names i d lt r.asked one.0;
-  texts = texts;
-  held = subst (λ (xs : List (List ℕ)). HoldAll old xs texts) (sym (take-map text i names)) r.held;
-  short = r.short;
+  stops = stops_behind old mid new names texts i d before between lt r one.0;
   long = long_before old mid _ (get_or names i d).now r.asked one.1;
 }
 is_stop Memory old mid new names texts i d before between now lt r one = tt

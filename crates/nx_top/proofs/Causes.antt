@@ -216,7 +216,7 @@ gates_faulty form old new before now a (Unread file s rose) e = absurd (unequal 
 gates_faulty form old new before now a (Long file s) e = absurd (unequal 10 3 refl e)
 gates_faulty form old new before now a (Read config calls b texts comes) e =
     let f = texts_faulty form config calls b comes e in
-    (config, calls, f.0, texts.held, f.1)
+    (config, calls, f.0, texts.held, texts.short, f.1)
 
 faulty : (a : Answer) (words : List (List ℕ)) (old new : Option Told) (before now : ℕ) → IsCaused words old new before now a → status_of a ≡ 3 → (form : GatesForm) × (form_of words ≡ Some (Gates form)) × IsFaulty form old
 faulty a words old new before now (NoForm none asked) s = absurd (unequal 2 3 refl s)

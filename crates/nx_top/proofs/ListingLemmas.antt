@@ -147,6 +147,6 @@ one_reading form t config calls a b c d k (Texts config' calls' b' c' d' k') =
 -- the answer that follows is the one that the files come to
 pub they_agree : (form : GatesForm) (t : Told) (new : Option Told) (before now : ℕ) (a b : Answer) → FollowsGates form (Some t) new before now a → TheyComeTo form t b → (Rose before now → ⊥) → a ≡ b
 they_agree form t new before now a b (Unread file s rose) k never = absurd (never rose)
-they_agree form t new before now a b (Long file s) k never = one_long form t s.place file s.texts b s.named s.held s.short s.long k
+they_agree form t new before now a b (Long file s) k never = one_long form t s.stops.place file s.stops.texts b s.stops.named s.stops.held s.stops.short s.long k
 they_agree form t new before now a b (Read config calls a' texts comes) k never =
     one_reading form t config calls a b (first_holds t form.config config (form.calls ∷ []) (calls ∷ []) texts.held texts.short) (second_holds t form.config form.calls config calls texts.held texts.short) comes k

@@ -58,19 +58,23 @@ pub record HaveTexts (names texts : List (List ℕ)) (old new : Option Told) : T
   pub held : HoldAll old names texts
   pub short : AreShort texts
 
--- the file at some place is too long, and was asked last, behind those before it, which held texts
-pub record StopsLong (names : List (List ℕ)) (name : List ℕ) (old new : Option Told) : Type 0 where
+-- reading texts stopped at the file at some place: it was asked last, behind those before it, which held texts
+pub record StopsBehind (names : List (List ℕ)) (name : List ℕ) (old new : Option Told) : Type 0 where
   pub place : ℕ
   pub named : slice_get names place ≡ Some name
   pub asked : Asked old new (take (place + 1) names)
   pub texts : List (List ℕ)
   pub held : HoldAll old (take place names) texts
   pub short : AreShort texts
+
+-- reading texts stopped at a file that is too long
+pub record StopsLong (names : List (List ℕ)) (name : List ℕ) (old new : Option Told) : Type 0 where
+  pub stops : StopsBehind names name old new
   pub long : IsLongThere old name
 
--- why reading stopped at a file, where it stops at one that is too long too; want of memory says nothing
+-- why reading texts stopped at a file; want of memory says nothing
 abbrev pub IsStop : FileStop → List ℕ → List (List ℕ) → Option Told → Option Told → ℕ → ℕ → Type 0
-IsStop Failed name names old new before now = StopsAt names name old new × Rose before now
+IsStop Failed name names old new before now = StopsBehind names name old new × Rose before now
 IsStop TooLong name names old new before now = StopsLong names name old new
 IsStop Memory name names old new before now = Unit {0}
 

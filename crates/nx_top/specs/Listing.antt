@@ -15,7 +15,7 @@ use Rattle.nx_top.specs.declared.answer.Answer.TheVariants.{CannotRead, TooLong,
 use Rattle.nx_top.specs.declared.fault.FileFault.{FileFault}
 use Rattle.nx_top.specs.declared.fault.FaultKind.TheVariants.{Config, Calls}
 use Rattle.nx_top.specs.Words.{GatesForm, gates_files}
-use Rattle.nx_top.specs.FilesRead.{StopsAt, StopsLong, HoldAll, HaveTexts}
+use Rattle.nx_top.specs.FilesRead.{StopsBehind, StopsLong, HoldAll, AreShort, HaveTexts}
 
 -- what the texts of a configuration and of a call table come to: the first fault of the
 -- configuration, else that of the table, else the listing of the gates of the table's rows
@@ -27,9 +27,9 @@ pub data ComesTo (form : GatesForm) (config calls : List ℕ) : Answer → Type 
   Lists : (rows : List CallRow) → first_fault config ≡ None → IsTable (meaning_by config) calls (Ok rows) →
       ComesTo form config calls (Listed (listing_of (map gate_of rows)))
 
--- why an answer comes to the form: a file could not be read, or was too long, or both were read
+-- why an answer comes to the form: a file could not be read, or was too long, and what stood before it was read; or both were read
 pub data FollowsGates (form : GatesForm) (old new : Option Told) (before now : ℕ) : Answer → Type 0 where
-  Unread : (file : List ℕ) → StopsAt (gates_files form) file old new → Rose before now → FollowsGates form old new before now (CannotRead file)
+  Unread : (file : List ℕ) → StopsBehind (gates_files form) file old new → Rose before now → FollowsGates form old new before now (CannotRead file)
   Long : (file : List ℕ) → StopsLong (gates_files form) file old new → FollowsGates form old new before now (TooLong file)
   Read : (config calls : List ℕ) (a : Answer) → HaveTexts (gates_files form) (config ∷ calls ∷ []) old new → ComesTo form config calls a →
       FollowsGates form old new before now a
@@ -45,7 +45,7 @@ pub data TheyComeTo (form : GatesForm) (t : Told) : Answer → Type 0 where
   LongCalls : (config : List ℕ) → Holds t form.config config → IsLong t form.calls → TheyComeTo form t (TooLong form.calls)
   Texts : (config calls : List ℕ) (a : Answer) → Holds t form.config config → Holds t form.calls calls → ComesTo form config calls a → TheyComeTo form t a
 
--- the texts of the two files, where they are told, of which one has no reading
+-- the texts of the two files, of which one has no reading
 abbrev pub IsFaulty : GatesForm → Option Told → Type 0
 IsFaulty form told =
-    (config calls : List ℕ) × (fault : FileFault) × HoldAll told (gates_files form) (config ∷ calls ∷ []) × ComesTo form config calls (Faulty fault)
+    (config calls : List ℕ) × (fault : FileFault) × HoldAll told (gates_files form) (config ∷ calls ∷ []) × AreShort (config ∷ calls ∷ []) × ComesTo form config calls (Faulty fault)

@@ -13,9 +13,9 @@ kind_text (Config kind) = config_texts.kind_text kind
 kind_text (Calls kind) = calls_texts.kind_text kind
 
 -- the line, or of a call table the record, and the words for what is wrong
-unfoldable pub place_text : FileFault → List ℕ
-place_text fault = 58 ∷ decimal fault.line ++ codes ": " ++ kind_text fault.kind
+unfoldable pub line_and_kind : FileFault → List ℕ
+line_and_kind fault = 58 ∷ decimal fault.line ++ codes ": " ++ kind_text fault.kind
 
 -- the file, and what is wrong where
 abbrev pub fault_text : FileFault → List ℕ
-fault_text fault = fault.file ++ place_text fault
+fault_text fault = fault.file ++ line_and_kind fault

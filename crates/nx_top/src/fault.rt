@@ -1,5 +1,5 @@
 ghost use Rattle.std.specs.Prelude.{◌≡◌, IfOk};
-ghost use Rattle.nx_top.specs.Refusals.{kind_text, place_text};
+ghost use Rattle.nx_top.specs.Refusals.{kind_text, line_and_kind as line_and_kind_of};
 
 use nx_base::Bytes;
 use nx_calls::CallsKind;
@@ -36,9 +36,9 @@ pub struct FileFault {
 
 impl FileFault {
     /// The line and what is wrong there, as they stand behind the file's name.
-    #[tactic(auto, unfolding(crate::specs::Refusals::place_text))]
-    pub fn place(&self, alloc: Global) -> Result<Bytes, AllocError>
-        ensures { IfOk result (λ text. text ≡ place_text self.now) }
+    #[tactic(auto, unfolding(crate::specs::Refusals::line_and_kind))]
+    pub fn line_and_kind(&self, alloc: Global) -> Result<Bytes, AllocError>
+        ensures { IfOk result (λ text. text ≡ line_and_kind_of self.now) }
     {
         let line = format!(in alloc; ":{}: ", self.line)?;
         let mut text = Bytes::from_slice(alloc, line.as_bytes())?;

@@ -1,6 +1,6 @@
 ghost use Rattle.std.specs.Prelude.{◌≡◌, ◌⊎◌, ◌++◌, [], None, Some, List, ℕ, map};
 ghost use Rattle.std.specs.List.{flat_map};
-ghost use Rattle.nx_outside.specs.Outside.{Told, Wrote, Rose, IsLong};
+ghost use Rattle.nx_outside.specs.Outside.{Told, Wrote, Rose};
 ghost use Rattle.nx_top.specs.declared.answer.Answer.{Answer};
 ghost use Rattle.nx_top.specs.Words.{RunForm, GatesForm, Run, Gates, form_of, gates_files};
 ghost use Rattle.nx_top.specs.Listing.{TheyComeTo, IsFaulty};
@@ -59,13 +59,13 @@ fn put_refusal<S: Sink>(alloc: Global, out: &mut S, status: u8, what: &[u8], nam
 fn put_fault<S: Sink>(alloc: Global, out: &mut S, fault: &FileFault) -> u8
     ensures { Ends result 3 (refusal (fault_text fault.now)) (S.told out.old) (S.told out.new) (S.faults out.old) (S.faults out.new) }
 {
-    match fault.place(alloc) {
-        Ok(place) => put_refusal(
+    match fault.line_and_kind(alloc) {
+        Ok(line_and_kind) => put_refusal(
             alloc,
             out,
             NO_READING,
             fault.file.as_slice(),
-            place.as_slice(),
+            line_and_kind.as_slice(),
         ),
         Err(_) => NO_MEMORY,
     }

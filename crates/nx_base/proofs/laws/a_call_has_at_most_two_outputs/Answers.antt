@@ -1,5 +1,5 @@
 use Rattle.nx_base.proofs.Outputs.{two_outputs, nothing_fits}
-use Rattle.nx_base.proofs.laws.a_reply_has_two_outputs.Goals as goal
+use Rattle.nx_base.proofs.laws.a_call_has_at_most_two_outputs.Goals as goal
 
 pub returns-clause-two : goal.returns-clause-two
 returns-clause-two c = two_outputs
