@@ -1,5 +1,6 @@
 pub mod ByteLemmas
 pub mod CallNames
+pub mod Digits
 pub mod Finding
 pub mod Puts
 pub mod RegisterLemmas

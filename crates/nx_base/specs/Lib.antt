@@ -6,4 +6,5 @@ pub mod ErrorNumbers
 pub mod KernelCalls
 pub mod Replies
 pub mod Registers
+pub mod TextBytes
 pub mod Views

@@ -9,8 +9,10 @@ mod cursor;
 mod errno;
 mod kinds;
 mod laws;
+mod out_of_memory;
 mod regs;
 mod text;
+mod text_bytes;
 mod words;
 
 pub use bytes::Bytes;
@@ -20,8 +22,13 @@ pub use cursor::Cursor;
 pub use errno::Errno;
 pub use kinds::{Access, AluOp, Build, Cond, Mode};
 pub use laws::{a_call_has_at_most_two_outputs, a_store_changes_its_bytes_alone};
+pub use out_of_memory::OutOfMemory;
 pub use regs::Regs;
 pub use text::Text;
+pub use text_bytes::{
+    are_word_bytes, digit_value, is_blank, is_identifier, is_line_blank, is_word_byte,
+    is_word_start, number_of, trim_start, trimmed,
+};
 pub use words::{get_le32, put_le32};
 
 #[cfg(test)]
