@@ -1,0 +1,102 @@
+ghost use Rattle.std.specs.Prelude.{◌≡◌, ◌+◌, ◌-◌, ◌^◌, ◌<◌, ◌≤◌, ◌↔◌, min, Some, None, slice_set};
+ghost use Rattle.nx_pmp.specs.Protection.{allows};
+ghost use Rattle.nx_pmp.specs.Unit.{AskedUnit};
+
+use crate::pmp::{Pmp, PmpEntry};
+use nx_base::{Access, Mode};
+use std::marker::Model;
+
+/// What a unit is asked: whether an access to the `len` bytes at an address is allowed in a mode.
+#[derive(Clone, Copy, Debug, PartialEq, Eq, Drop)]
+pub struct Question {
+    pub at: u32,
+    pub len: u32,
+    pub access: Access,
+    pub mode: Mode,
+}
+
+/// Entries that are asked before each access. Contracts see the entries, how often they were asked
+/// and the last question, which is `None` exactly before the first.
+#[derive(Drop)]
+pub struct PmpUnit {
+    pmp: Pmp,
+    asked: u64,
+    last: Option<Question>,
+}
+
+impl Model for PmpUnit {
+    ghost use Rattle.nx_pmp.specs.Unit.{AskedUnit, IsAsked};
+
+    ghost Value = { AskedUnit };
+
+    ghost view = { λ u. record { pmp = u.pmp; asked = u.asked; last = u.last } };
+
+    ghost invariant = { λ u. IsAsked u.asked u.last };
+}
+
+impl PmpUnit {
+    /// A unit with these entries that was not asked yet.
+    pub fn new(pmp: Pmp) -> PmpUnit
+        ensures { result ≡ record { pmp = pmp; asked = 0; last = None } }
+    {
+        PmpUnit {
+            pmp,
+            asked: 0,
+            last: None,
+        }
+    }
+
+    /// What `allows` answers. The question is kept and counted; the count stays at 2^64 - 1 once it
+    /// is there.
+    pub fn ask(&mut self, at: u32, len: u32, access: Access, mode: Mode) -> bool
+        requires some { 1 ≤ len }
+        requires few { len ≤ 4 }
+        requires fits { at + len ≤ 2 ^ 32 }
+        ensures answer { result ≡ allows self.old.pmp at len access mode }
+        ensures pmp { self.new.pmp ≡ self.old.pmp }
+        ensures asked { self.new.asked ≡ min (self.old.asked + 1) (2 ^ 64 - 1) }
+        ensures last { self.new.last ≡ Some (record { at = at; len = len; access = access; mode = mode }) }
+    {
+        self.asked = self.asked.saturating_add(1);
+        self.last = Some(Question {
+            at,
+            len,
+            access,
+            mode,
+        });
+        self.pmp.allows(at, len, access, mode)
+    }
+
+    /// The entries.
+    pub fn pmp(&self) -> &Pmp
+        ensures { result.now ≡ self.now.pmp }
+    {
+        &self.pmp
+    }
+
+    /// Changes the entry at a place, counted from 0, and no other.
+    pub fn set(&mut self, place: usize, entry: PmpEntry)
+        requires { place < 16 }
+        ensures entries { self.new.pmp.entries ≡ slice_set self.old.pmp.entries place entry }
+        ensures asked { self.new.asked ≡ self.old.asked }
+        ensures last { self.new.last ≡ self.old.last }
+    {
+        self.pmp.entries[place] = entry;
+    }
+
+    /// How many questions there were.
+    pub fn asked(&self) -> u64
+        ensures count { result ≡ self.now.asked }
+        ensures first { result ≡ 0 ↔ self.now.last ≡ None }
+    {
+        self.asked
+    }
+
+    /// The last question. There is none exactly where none was asked.
+    pub fn last(&self) -> Option<Question>
+        ensures value { result ≡ self.now.last }
+        ensures first { (self.now.asked ≡ 0) ↔ (result ≡ None) }
+    {
+        self.last
+    }
+}
