@@ -3,3 +3,5 @@ pub mod KindLists
 pub mod Numbered
 pub mod OneTable
 pub mod RecordCounts
+pub mod Pieces
+pub mod Spacing

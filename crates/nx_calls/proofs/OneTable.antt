@@ -8,12 +8,11 @@ use Rattle.nx_grammar.proofs.Results.{ok_same}
 use Rattle.nx_conditions.specs.declared.token.Token.{Token}
 use Rattle.nx_conditions.specs.declared.condition.Condition.{Condition}
 use Rattle.nx_conditions.specs.declared.meaning.Meaning.{Meaning}
-use Rattle.nx_conditions.specs.Bytes.{after_blanks}
-use Rattle.nx_conditions.specs.Tokens.{AreTokens, End, More}
+use Rattle.nx_conditions.specs.Tokens.{after_blanks, AreTokens, End, More}
 use Rattle.nx_conditions.specs.Grammar.{IsWhole, IsCondition}
 use Rattle.nx_conditions.specs.Value.{holds}
 use Rattle.nx_conditions.proofs.Complete.{condition_complete}
-use Rattle.nx_config.specs.Line.{trim}
+use Rattle.nx_base.specs.TextBytes.{is_line_blank, trimmed_of}
 use Rattle.nx_calls.specs.declared.fault.CallsKind.{CallsKind}
 use Rattle.nx_calls.specs.declared.fault.CallsFault.{CallsFault}
 use Rattle.nx_calls.specs.declared.fault.CallsFault.TheVariants as fault
@@ -124,16 +123,16 @@ Table = Result (List CallRow) CallsFault
 one_reading : (means : List ℕ → Option Meaning) (n : ℕ) (rows : List CallRow) (records : List (List (List ℕ))) (r q : Table) → Reads means n rows records r → Reads means n rows records q → r ≡ q
 one_reading means n rows records r q (table.End m old) (table.End m' old') = refl
 one_reading means n rows records r q (Refused m old fields rest kind s) (Refused m' old' fields' rest' kind' s') =
-    ap (λ k. Err (fault.Text m k)) (kind_same kind kind' (one_verdict means old (map trim fields) (Err kind) (Err kind') s s'))
-one_reading means n rows records r q (Refused m old fields rest kind s) (Without m' old' fields' rest' r' s' x') = absurd (err_not_ok kind None (one_verdict means old (map trim fields) _ _ s s'))
-one_reading means n rows records r q (Refused m old fields rest kind s) (With m' old' fields' rest' row' r' s' x') = absurd (err_not_ok kind (Some row') (one_verdict means old (map trim fields) _ _ s s'))
-one_reading means n rows records r q (Without m old fields rest r' s x) (Refused m' old' fields' rest' kind' s') = absurd (err_not_ok kind' None (one_verdict means old (map trim fields) _ _ s' s))
+    ap (λ k. Err (fault.Text m k)) (kind_same kind kind' (one_verdict means old (map (trimmed_of is_line_blank) fields) (Err kind) (Err kind') s s'))
+one_reading means n rows records r q (Refused m old fields rest kind s) (Without m' old' fields' rest' r' s' x') = absurd (err_not_ok kind None (one_verdict means old (map (trimmed_of is_line_blank) fields) _ _ s s'))
+one_reading means n rows records r q (Refused m old fields rest kind s) (With m' old' fields' rest' row' r' s' x') = absurd (err_not_ok kind (Some row') (one_verdict means old (map (trimmed_of is_line_blank) fields) _ _ s s'))
+one_reading means n rows records r q (Without m old fields rest r' s x) (Refused m' old' fields' rest' kind' s') = absurd (err_not_ok kind' None (one_verdict means old (map (trimmed_of is_line_blank) fields) _ _ s' s))
 one_reading means n rows records r q (Without m old fields rest r' s x) (Without m' old' fields' rest' r'' s' x') = one_reading means (m + 1) old rest r' r'' x x'
-one_reading means n rows records r q (Without m old fields rest r' s x) (With m' old' fields' rest' row' r'' s' x') = absurd (none_not_some row' (one_verdict means old (map trim fields) _ _ s s'))
-one_reading means n rows records r q (With m old fields rest row r' s x) (Refused m' old' fields' rest' kind' s') = absurd (err_not_ok kind' (Some row) (one_verdict means old (map trim fields) _ _ s' s))
-one_reading means n rows records r q (With m old fields rest row r' s x) (Without m' old' fields' rest' r'' s' x') = absurd (none_not_some row (one_verdict means old (map trim fields) _ _ s' s))
+one_reading means n rows records r q (Without m old fields rest r' s x) (With m' old' fields' rest' row' r'' s' x') = absurd (none_not_some row' (one_verdict means old (map (trimmed_of is_line_blank) fields) _ _ s s'))
+one_reading means n rows records r q (With m old fields rest row r' s x) (Refused m' old' fields' rest' kind' s') = absurd (err_not_ok kind' (Some row) (one_verdict means old (map (trimmed_of is_line_blank) fields) _ _ s' s))
+one_reading means n rows records r q (With m old fields rest row r' s x) (Without m' old' fields' rest' r'' s' x') = absurd (none_not_some row (one_verdict means old (map (trimmed_of is_line_blank) fields) _ _ s' s))
 one_reading means n rows records r q (With m old fields rest row r' s x) (With m' old' fields' rest' row' r'' s' x') =
-    let same : row' ≡ row = row_same row' row (one_verdict means old (map trim fields) _ _ s' s) in
+    let same : row' ≡ row = row_same row' row (one_verdict means old (map (trimmed_of is_line_blank) fields) _ _ s' s) in
     one_reading means (m + 1) (old ++ row ∷ []) rest r' r'' x (subst (λ c. Reads means (m + 1) (old ++ c ∷ []) rest r'') same x')
 
 -- a text gives one table

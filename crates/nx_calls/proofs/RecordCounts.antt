@@ -2,7 +2,7 @@
 use Rattle.std.proofs.Common.{◌≡◌, ℕ, zero, suc, ◌+◌, ◌<◌, ◌≤◌, Bool, true, false, ◌⊎◌, inl, inr, if◌then◌else◌, List, [], ◌∷◌, ◌++◌, length, map, drop, Bor, append_assoc, Option, Some, None, refl, sym, ◌∙◌, ap, arith, add-one}
 use Rattle.csv.specs.Machine.{Read, next_record, ends_at_end, is_end, step}
 use Rattle.std.proofs.lemmas.List.{map-append, append-nil}
-use Rattle.nx_config.specs.Line.{trim}
+use Rattle.nx_base.specs.TextBytes.{is_line_blank, trimmed_of}
 use Rattle.std.proofs.lemmas.Grind.{common_steps}
 use Rattle.csv.specs.Reading.{AreRecords, Reached, strip_bom, is_bom}
 use Rattle.csv.specs.Records.{field_at}
@@ -88,20 +88,20 @@ field_past (g ∷ fs) (suc i) e = field_past fs i e
 
 -- the next field is trimmed
 pub cells_next : (cells new : List (Bor (List ℕ))) (t : Bor (List ℕ)) (fs : List (List ℕ)) (i : ℕ) (f : List ℕ) →
-    new ≡ cells ++ t ∷ [] → t.now ≡ trim f → Some f ≡ field_at fs i → map (λ c. c.now) cells ++ map trim (drop i fs) ≡ map trim fs →
-    map (λ c. c.now) new ++ map trim (drop (i + 1) fs) ≡ map trim fs
+    new ≡ cells ++ t ∷ [] → t.now ≡ trimmed_of is_line_blank f → Some f ≡ field_at fs i → map (λ c. c.now) cells ++ map (trimmed_of is_line_blank) (drop i fs) ≡ map (trimmed_of is_line_blank) fs →
+    map (λ c. c.now) new ++ map (trimmed_of is_line_blank) (drop (i + 1) fs) ≡ map (trimmed_of is_line_blank) fs
 cells_next cells new t fs i f e same at h =
-    let rest = map trim (drop (i + 1) fs) in
+    let rest = map (trimmed_of is_line_blank) (drop (i + 1) fs) in
     let front = map (λ c. c.now) cells in
     ap (λ v. map (λ c. c.now) v ++ rest) e
     ∙ ap (λ v. v ++ rest) (map-append (λ c. c.now) cells (t ∷ []))
     ∙ append_assoc front (t.now ∷ []) rest
     ∙ ap (λ g. front ++ (g ∷ rest)) same
-    ∙ ap (λ d. front ++ map trim d) (sym (field_here fs i f (sym at)))
+    ∙ ap (λ d. front ++ map (trimmed_of is_line_blank) d) (sym (field_here fs i f (sym at)))
     ∙ h
 
 -- all fields are trimmed
-pub cells_end : (cells : List (Bor (List ℕ))) (fs : List (List ℕ)) (i : ℕ) → None ≡ field_at fs i → map (λ c. c.now) cells ++ map trim (drop i fs) ≡ map trim fs →
-    map (λ c. c.now) cells ≡ map trim fs
+pub cells_end : (cells : List (Bor (List ℕ))) (fs : List (List ℕ)) (i : ℕ) → None ≡ field_at fs i → map (λ c. c.now) cells ++ map (trimmed_of is_line_blank) (drop i fs) ≡ map (trimmed_of is_line_blank) fs →
+    map (λ c. c.now) cells ≡ map (trimmed_of is_line_blank) fs
 cells_end cells fs i at h =
-    sym (append-nil (map (λ c. c.now) cells)) ∙ ap (λ d. map (λ c. c.now) cells ++ map trim d) (sym (field_past fs i (sym at))) ∙ h
+    sym (append-nil (map (λ c. c.now) cells)) ∙ ap (λ d. map (λ c. c.now) cells ++ map (trimmed_of is_line_blank) d) (sym (field_past fs i (sym at))) ∙ h

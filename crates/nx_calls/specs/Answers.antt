@@ -12,10 +12,10 @@ use Rattle.nx_calls.specs.Rows.{Verdict, IsWorth, IsNoCondition, Says}
 use Rattle.nx_calls.specs.Table.{Reads}
 
 -- what a function returned is this verdict, unless memory ran out
-abbrev pub Tells : Result (Option CallRow) RowStop → Verdict → Type 0
-Tells (Ok row) verdict = verdict ≡ Ok row
-Tells (Err stop.Memory) verdict = Unit {0}
-Tells (Err (stop.Fault kind)) verdict = verdict ≡ Err kind
+abbrev pub IsVerdict : Result (Option CallRow) RowStop → Verdict → Type 0
+IsVerdict (Ok row) verdict = verdict ≡ Ok row
+IsVerdict (Err stop.Memory) verdict = Unit {0}
+IsVerdict (Err (stop.Fault kind)) verdict = verdict ≡ Err kind
 
 -- the fields say this, unless memory ran out
 abbrev pub IsSaid : (List ℕ → Option Meaning) → List CallRow → List (List ℕ) → Result (Option CallRow) RowStop → Type 0
@@ -30,11 +30,11 @@ IsHeld means text (Err condition_stop.Bad) = IsNoCondition text
 IsHeld means text (Err condition_stop.Memory) = Unit {0}
 
 -- how a record leads from rows to rows, unless memory ran out
-abbrev pub Follows : (List ℕ → Option Meaning) → List (List ℕ) → List CallRow → List CallRow → Result (Unit {0}) RowStop → Type 0
-Follows means fields old new (Ok done) =
+abbrev pub LeadsOn : (List ℕ → Option Meaning) → List (List ℕ) → List CallRow → List CallRow → Result (Unit {0}) RowStop → Type 0
+LeadsOn means fields old new (Ok done) =
     (n : ℕ) (records : List (List (List ℕ))) (r : Result (List CallRow) CallsFault) → Reads means (n + 1) new records r → Reads means n old (fields ∷ records) r
-Follows means fields old new (Err stop.Memory) = Unit {0}
-Follows means fields old new (Err (stop.Fault kind)) =
+LeadsOn means fields old new (Err stop.Memory) = Unit {0}
+LeadsOn means fields old new (Err (stop.Fault kind)) =
     (n : ℕ) (records : List (List (List ℕ))) → Reads means n old (fields ∷ records) (Err (fault.Text n kind))
 
 -- the fault of the table at a record

@@ -1,5 +1,5 @@
 -- What a row of the call table says.
-use Rattle.std.specs.Prelude.{◌≡◌, ℕ, ◌+◌, ◌<◌, ◌≤◌, Bool, true, false, not, ◌&&◌, ◌||◌, nat_le, nat_lt, if◌then◌else◌, List, [], ◌∷◌, length, map, codes, Option, None, Some, Result, Ok, Err}
+use Rattle.std.specs.Prelude.{◌≡◌, ℕ, ◌+◌, ◌<◌, ◌≤◌, Bool, true, false, not, ◌&&◌, ◌||◌, nat_le, nat_lt, if◌then◌else◌, List, [], ◌∷◌, All, length, map, codes, Option, None, Some, Result, Ok, Err}
 use Rattle.std.specs.List.{filter, list_any, list_all}
 use Rattle.std.specs.Str.{bytes_eq}
 use lib.Pointwise.{pointwise}
@@ -14,7 +14,7 @@ use Rattle.nx_conditions.specs.declared.condition.Condition.{Condition}
 use Rattle.nx_conditions.specs.declared.meaning.Meaning.{Meaning}
 use Rattle.nx_conditions.specs.Grammar.{IsCondition}
 use Rattle.nx_conditions.specs.Value.{holds}
-use Rattle.nx_config.specs.Line.{is_name_byte}
+use Rattle.nx_base.specs.TextBytes.{is_identifier}
 use Rattle.nx_calls.specs.declared.fault.CallsKind.{CallsKind}
 use Rattle.nx_calls.specs.declared.fault.CallsKind.TheVariants.{FewFields, BadName, BadCondition, UnionType, BadType, TooManyParameters, NameTwice, Signature, Limit}
 use Rattle.nx_calls.specs.declared.row.CallRow.{CallRow}
@@ -26,19 +26,15 @@ use Rattle.nx_calls.specs.Kinds.{has_star, kinds_of}
 abbrev pub Verdict : Type 0
 Verdict = Result (Option CallRow) CallsKind
 
-abbrev pub begins_name : List ℕ → Bool
-begins_name [] = false
-begins_name (b ∷ bytes) = not (nat_le 48 b && nat_le b 57)
-
 -- a name of C of at most 64 bytes
 abbrev pub is_c_name : List ℕ → Bool
-is_c_name name = begins_name name && nat_le (length name) 64 && list_all is_name_byte name
+is_c_name name = is_identifier name && nat_le (length name) 64
 
 -- a field that is no parameter
 abbrev pub is_ellipsis : List ℕ → Bool
 is_ellipsis field = bytes_eq field (codes "...")
 
--- the fields of parameters among those behind the return type
+-- the fields of parameters among those after the return type
 abbrev pub parameters : List (List ℕ) → List (List ℕ)
 parameters fields = filter (λ f. not (is_ellipsis f)) fields
 
@@ -60,7 +56,7 @@ unfoldable pub kinds_in : Option KCall → CallType → List CallType → Option
 kinds_in None given types = Some (map (λ t. Word) types)
 kinds_in (Some call) given types = if has_star given.actual then None else fitting call (kinds_of types)
 
--- a row of these kinds behind others: the numbers begin with 16, and there are at most 512
+-- a row of these kinds after others: the numbers begin with 16, and there are at most 512
 abbrev pub numbered : List CallRow → List ℕ → CallType → Option (List Kind) → Verdict
 numbered rows name given None = Err Signature
 numbered rows name given (Some kinds) =
@@ -74,7 +70,7 @@ numbered rows name given (Some kinds) =
     }))
     else Err Limit
 
--- a row of these types behind others
+-- a row of these types after others
 unfoldable pub typed : List CallRow → List ℕ → CallType → List CallType → Verdict
 typed rows name given types =
     if is_bad given || list_any is_bad types then Err BadType
@@ -82,11 +78,21 @@ typed rows name given types =
     else if list_any (λ row. bytes_eq name row.name) rows then Err NameTwice
     else numbered rows name given (kinds_in (call_named name) given types)
 
--- a row of this return type and these parameters, as fields, behind others
+-- a row of this return type and these parameters, as fields, after others
 unfoldable pub declared_row : List CallRow → List ℕ → List ℕ → List (List ℕ) → Verdict
 declared_row rows name given types =
     if is_union given || list_any is_union types then Err UnionType
     else typed rows name (type_of given) (map type_of types)
+
+-- what holds of the kinds of a row: they are those of the kernel's call, or all words where it has none
+abbrev pub HasKinds : Option KCall → List Kind → Type 0
+HasKinds None kinds = All (λ kind. kind ≡ Word) kinds
+HasKinds (Some call) kinds = fits call kinds ≡ true
+
+-- what holds of every row: its call is the kernel's of its name, and its kinds fit that call
+pub record IsRow (row : CallRow) : Type 0 where
+  pub kernel : row.kernel ≡ call_named row.name
+  pub kinds : HasKinds row.kernel row.kinds.items
 
 -- a text of at most 1,024 bytes is a condition that holds or not
 pub record IsWorth (means : List ℕ → Option Meaning) (text : List ℕ) (b : Bool) : Type 0 where
@@ -99,7 +105,7 @@ pub record IsWorth (means : List ℕ → Option Meaning) (text : List ℕ) (b : 
 abbrev pub IsNoCondition : List ℕ → Type 0
 IsNoCondition text = length text ≤ 1024 → (a : Condition) → IsCondition text a → ⊥
 
--- what the fields of a row say behind other rows: name, header, condition, return type, parameters
+-- what the fields of a row say after other rows: name, header, condition, return type, parameters
 pub data Says (means : List ℕ → Option Meaning) (rows : List CallRow) : List (List ℕ) → Verdict → Type 0 where
   FewerFields : (fields : List (List ℕ)) → length fields < 4 → Says means rows fields (Err FewFields)
   NoName : (name header condition given : List ℕ) (types : List (List ℕ)) → is_c_name name ≡ false →

@@ -3,7 +3,7 @@ use Rattle.std.specs.Prelude.{◌≡◌, ℕ, ◌+◌, ◌≤◌, List, [], ◌�
 use Rattle.csv.specs.Reading.{AreRecords, default_config, strip_bom}
 use Rattle.csv.specs.declared.parser.State.TheVariants as st
 use Rattle.nx_conditions.specs.declared.meaning.Meaning.{Meaning}
-use Rattle.nx_config.specs.Line.{trim}
+use Rattle.nx_base.specs.TextBytes.{is_line_blank, trimmed_of}
 use Rattle.nx_calls.specs.declared.fault.CallsKind.{CallsKind}
 use Rattle.nx_calls.specs.declared.fault.CallsFault.{CallsFault}
 use Rattle.nx_calls.specs.declared.fault.CallsFault.TheVariants as fault
@@ -23,11 +23,11 @@ IsInPlace rows = (length rows ≤ 512) × AreNumbered 16 rows
 pub data Reads (means : List ℕ → Option Meaning) : ℕ → List CallRow → List (List (List ℕ)) → Result (List CallRow) CallsFault → Type 0 where
   End : (n : ℕ) (rows : List CallRow) → Reads means n rows [] (Ok rows)
   Refused : (n : ℕ) (rows : List CallRow) (fields : List (List ℕ)) (records : List (List (List ℕ))) (kind : CallsKind) →
-      Says means rows (map trim fields) (Err kind) → Reads means n rows (fields ∷ records) (Err (fault.Text n kind))
+      Says means rows (map (trimmed_of is_line_blank) fields) (Err kind) → Reads means n rows (fields ∷ records) (Err (fault.Text n kind))
   Without : (n : ℕ) (rows : List CallRow) (fields : List (List ℕ)) (records : List (List (List ℕ))) (r : Result (List CallRow) CallsFault) →
-      Says means rows (map trim fields) (Ok None) → Reads means (n + 1) rows records r → Reads means n rows (fields ∷ records) r
+      Says means rows (map (trimmed_of is_line_blank) fields) (Ok None) → Reads means (n + 1) rows records r → Reads means n rows (fields ∷ records) r
   With : (n : ℕ) (rows : List CallRow) (fields : List (List ℕ)) (records : List (List (List ℕ))) (row : CallRow) (r : Result (List CallRow) CallsFault) →
-      Says means rows (map trim fields) (Ok (Some row)) → Reads means (n + 1) (rows ++ row ∷ []) records r → Reads means n rows (fields ∷ records) r
+      Says means rows (map (trimmed_of is_line_blank) fields) (Ok (Some row)) → Reads means (n + 1) (rows ++ row ∷ []) records r → Reads means n rows (fields ∷ records) r
 
 -- what a text gives: its records are those of its values between commas, without a byte order mark, and the first has the number 1
 pub record IsTable (means : List ℕ → Option Meaning) (text : List ℕ) (r : Result (List CallRow) CallsFault) : Type 0 where

@@ -1,29 +1,55 @@
 -- The types of a row of the call table.
-use Rattle.std.specs.Prelude.{ℕ, ◌==◌, Bool, true, false, ◌||◌, nat_lt, if◌then◌else◌, List, [], ◌∷◌, ◌++◌, length, codes}
-use Rattle.std.specs.List.{count_by}
+use Rattle.std.specs.Prelude.{ℕ, ◌==◌, Bool, true, false, not, ◌||◌, nat_lt, if◌then◌else◌, List, [], ◌∷◌, ◌++◌, length, codes}
+use Rattle.std.specs.List.{count_by, filter, flat_map, concat, slice_split, join_with_byte, before_first, after_first}
 use Rattle.std.specs.Str.{bytes_eq}
-use Rattle.nx_config.specs.Line.{is_blank, drop_blanks, before_mark, behind_mark, is_name_byte}
+use Rattle.nx_base.specs.TextBytes.{is_line_blank, is_word_byte}
 use Rattle.nx_calls.specs.declared.types.CallType.{CallType}
 
--- a word, or nothing where it is FAR
-abbrev pub kept_word : List ℕ → List ℕ
-kept_word word = if bytes_eq word (codes "FAR") then [] else word
+-- a letter, a digit or an underscore goes to the word that follows it, if one does
+abbrev pub onto_word : ℕ → List (List ℕ) → List (List ℕ)
+onto_word b [] = (b ∷ []) ∷ []
+onto_word b ([] ∷ pieces) = (b ∷ []) ∷ pieces
+onto_word b ((c ∷ cs) ∷ pieces) = if is_word_byte c then (b ∷ c ∷ cs) ∷ pieces else (b ∷ []) ∷ (c ∷ cs) ∷ pieces
 
--- what is left behind the begun word, once each whole word FAR is dropped
-abbrev pub without_far : List ℕ → List ℕ → List ℕ
-without_far word [] = kept_word word
-without_far word (b ∷ bytes) =
-    if is_name_byte b then without_far (word ++ b ∷ []) bytes else kept_word word ++ (b ∷ without_far [] bytes)
+-- the pieces of a text: its whole words, and each other byte
+abbrev pub pieces_of : List ℕ → List (List ℕ)
+pieces_of [] = []
+pieces_of (b ∷ bytes) = if is_word_byte b then onto_word b (pieces_of bytes) else (b ∷ []) ∷ pieces_of bytes
 
--- the bytes with one space for blanks that stand together, and none at the end; whether blanks stand right before
-abbrev pub single : Bool → List ℕ → List ℕ
-single gap [] = []
-single gap (b ∷ bytes) =
-    if is_blank b then single true bytes else (if gap then 32 ∷ b ∷ single false bytes else b ∷ single false bytes)
+-- the word FAR
+abbrev pub is_far : List ℕ → Bool
+is_far word = bytes_eq word (codes "FAR")
 
--- a part of a type: without FAR, with single blanks, and none at its ends
+-- a text without the whole word FAR
+abbrev pub without_far : List ℕ → List ℕ
+without_far bytes = concat (filter (λ piece. not (is_far piece)) (pieces_of bytes))
+
+-- a part that has a byte
+abbrev pub is_filled : List ℕ → Bool
+is_filled [] = false
+is_filled (b ∷ bytes) = true
+
+-- the parts that have a byte
+abbrev pub filled : List (List ℕ) → List (List ℕ)
+filled parts = filter is_filled parts
+
+-- what stands between blanks
+abbrev pub between_blanks : List ℕ → List (List ℕ)
+between_blanks bytes = slice_split is_line_blank bytes
+
+-- a part of a type: without FAR, with single spaces for blanks, and none at its ends
 unfoldable pub plain : List ℕ → List ℕ
-plain part = single false (drop_blanks (without_far [] part))
+plain part = join_with_byte 32 (filled (between_blanks (without_far part)))
+
+-- parts, each after a space
+abbrev pub spaced : List (List ℕ) → List ℕ
+spaced parts = flat_map (λ part. 32 ∷ part) parts
+
+-- what parts add to a text: whether a blank stands between it and the first
+abbrev pub added : Bool → List (List ℕ) → List ℕ
+added true parts = spaced (filled parts)
+added false [] = []
+added false (part ∷ parts) = part ++ spaced (filled parts)
 
 -- how many bars a field has
 abbrev pub bars : List ℕ → ℕ
@@ -37,7 +63,7 @@ is_union field = nat_lt 1 (bars field)
 unfoldable pub type_of : List ℕ → CallType
 type_of field =
     if bars field == 1
-    then record { formal = plain (before_mark 124 field); actual = plain (behind_mark 124 field) }
+    then record { formal = plain (before_first (λ b. b == 124) field); actual = plain (after_first (λ b. b == 124) field) }
     else record { formal = plain field; actual = plain field }
 
 -- a type with an empty part

@@ -1,35 +1,24 @@
 ghost use Rattle.std.specs.Prelude.{◌≡◌, ◌∷◌, [], List, ℕ, IfOk, map};
-ghost use Rattle.std.specs.List.{list_all};
-ghost use Rattle.nx_calls.specs.Rows.{is_ellipsis as is_ellipsis_field, parameters as parameters_of, begins_name as begins_name_text, is_c_name as is_c_name_text};
+ghost use Rattle.nx_calls.specs.Rows.{is_ellipsis as is_ellipsis_field, parameters as parameters_of, is_c_name as is_c_name_text};
 ghost use Rattle.nx_calls.specs.Answers.{IsHeld, IsSaid};
-ghost use Rattle.nx_config.specs.Line.{is_name_byte as is_in_names};
 
 use crate::fault::{CallsKind, RowStop};
 use crate::row::{CallRow, declared_row};
-use crate::types::is_name_byte;
+use nx_base::is_identifier;
 use nx_conditions::{ConditionStop, Meanings, holds, read_condition};
 use std::alloc::{AllocError, Global};
 
-fn begins_name(name: &[u8]) -> bool
-    ensures { result ≡ begins_name_text name.now }
-{
-    match name {
-        [first, ..] => !(b'0' <= *first && *first <= b'9'),
-        [] => false,
-    }
-}
+/// How many bytes a name has at most.
+const LONGEST_NAME: usize = 64;
 
-fn are_name_bytes(name: &[u8]) -> bool
-    ensures { result ≡ list_all is_in_names name.now }
-{
-    name.iter().all(|byte| is_name_byte(*byte))
-}
+/// How many bytes a condition has at most.
+const LONGEST_CONDITION: usize = 1024;
 
 /// Whether these bytes are a name of C of at most 64 bytes.
 fn is_c_name(name: &[u8]) -> bool
     ensures { result ≡ is_c_name_text name.now }
 {
-    begins_name(name) && name.len() <= 64 && are_name_bytes(name)
+    is_identifier(name) && name.len() <= LONGEST_NAME
 }
 
 fn is_ellipsis(field: &[u8]) -> bool
@@ -60,7 +49,7 @@ fn condition_holds<M: Meanings>(
 ) -> Result<bool, ConditionStop>
     ensures { IsHeld (M.meaning meanings.now) text.now result }
 {
-    if text.len() > 1024 {
+    if text.len() > LONGEST_CONDITION {
         return Err(ConditionStop::Bad);
     }
     match read_condition(alloc, text) {
@@ -69,7 +58,7 @@ fn condition_holds<M: Meanings>(
     }
 }
 
-/// What a row of at least four fields says behind other rows, whatever its header file.
+/// What a row of at least four fields says after other rows, whatever its header file.
 fn said<M: Meanings>(
     alloc: Global,
     rows: &[CallRow],
@@ -95,7 +84,7 @@ fn said<M: Meanings>(
     }
 }
 
-/// What the fields of a row say behind other rows.
+/// What the fields of a row say after other rows.
 pub(crate) fn judge<M: Meanings>(
     alloc: Global,
     rows: &[CallRow],

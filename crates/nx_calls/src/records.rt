@@ -2,10 +2,10 @@ ghost use Rattle.std.specs.Prelude.{◌≡◌, ◌≤◌, ◌+◌, IfOk, length,
 ghost use Rattle.csv.specs.Reading.{AreRecords, default_config, strip_bom};
 ghost use Rattle.csv.specs.Records.{fields_of};
 ghost use Rattle.csv.specs.declared.parser.State.TheVariants as st;
-ghost use Rattle.nx_config.specs.Line.{trim};
+ghost use Rattle.nx_base.specs.TextBytes.{is_line_blank, trimmed_of};
 
 use csv::{ByteRecord, Error, ReaderBuilder};
-use nx_config::trimmed;
+use nx_base::trimmed;
 use std::alloc::{AllocError, Global};
 
 fn byte_records(alloc: Global, text: &[u8]) -> Result<Vec<ByteRecord>, Error>
@@ -38,7 +38,7 @@ pub(crate) fn records(alloc: Global, text: &[u8]) -> Result<Vec<ByteRecord>, All
 
 /// The fields of a record, each without the blanks at its ends.
 pub(crate) fn cells(alloc: Global, row: &ByteRecord) -> Result<Vec<&[u8]>, AllocError>
-    ensures { IfOk result (λ v. map (λ f. f.now) v.items ≡ map trim (fields_of row.now)) }
+    ensures { IfOk result (λ v. map (λ f. f.now) v.items ≡ map (trimmed_of is_line_blank) (fields_of row.now)) }
 {
     let mut cells = Vec::new(alloc);
     let mut at = 0;

@@ -8,7 +8,7 @@ ghost use Rattle.nx_calls.specs.Rows.{
   typed as typed_row,
   declared_row as declared_row_of,
 };
-ghost use Rattle.nx_calls.specs.Answers.{Tells};
+ghost use Rattle.nx_calls.specs.Answers.{IsVerdict};
 ghost use Rattle.std.specs.Str.{bytes_eq};
 
 use crate::fault::{CallsKind, RowStop};
@@ -115,7 +115,7 @@ fn numbered(
     given: &CallType,
     kinds: Option<ArrayVec<Kind, 6>>,
 ) -> Result<Option<CallRow>, RowStop>
-    ensures { Tells result (numbered_row rows.now name.now given.now (option_map (λ ks. ks.items) kinds)) }
+    ensures { IsVerdict result (numbered_row rows.now name.now given.now (option_map (λ ks. ks.items) kinds)) }
 {
     let Some(kinds) = kinds else {
         return Err(RowStop::Fault(CallsKind::Signature));
@@ -146,7 +146,7 @@ fn typed(
     given: &CallType,
     types: &[CallType],
 ) -> Result<Option<CallRow>, RowStop>
-    ensures { Tells result (typed_row rows.now name.now given.now types.now) }
+    ensures { IsVerdict result (typed_row rows.now name.now given.now types.now) }
 {
     if given.has_empty_part() || any_bad(types) {
         return Err(RowStop::Fault(CallsKind::BadType));
@@ -182,7 +182,7 @@ pub(crate) fn declared_row(
     given: &[u8],
     types: &[&[u8]],
 ) -> Result<Option<CallRow>, RowStop>
-    ensures { Tells result (declared_row_of rows.now name.now given.now (map (λ f. f.now) types.now)) }
+    ensures { IsVerdict result (declared_row_of rows.now name.now given.now (map (λ f. f.now) types.now)) }
 {
     if is_union(given) || any_union(types) {
         return Err(RowStop::Fault(CallsKind::UnionType));

@@ -1,41 +1,29 @@
-ghost use Rattle.std.specs.Prelude.{◌≡◌, ◌==◌, [], IfOk, OnOk, ◌++◌, ◌∷◌, List, ℕ, false, codes};
-ghost use Rattle.std.specs.List.{count_by, list_any};
-ghost use Rattle.std.specs.Str.{bytes_eq};
-ghost use Rattle.nx_config.specs.Line.{is_blank as is_blank_byte, is_name_byte as is_in_names};
-ghost use Rattle.nx_calls.specs.Types.{kept_word, without_far, single, plain, bars, is_union, type_of, is_bad as has_empty_part};
+ghost use Rattle.std.specs.Prelude.{◌≡◌, ◌≤◌, ◌==◌, [], length, IfOk, OnOk, ◌++◌, ◌∷◌, List, ℕ, true, false, if◌then◌else◌};
+ghost use Rattle.std.specs.List.{count_by, list_any, list_all, position_or_len, before_first, after_first};
+ghost use Rattle.nx_base.specs.TextBytes.{is_line_blank as is_a_line_blank, is_word_byte as is_a_word_byte};
+ghost use Rattle.nx_calls.specs.Types.{is_far as is_the_word_far, without_far, between_blanks, added, plain, bars, is_union, type_of, is_bad as has_empty_part};
 
-use nx_base::Bytes;
-use nx_config::{cut, trim_start};
+use nx_base::{Bytes, is_line_blank, is_word_byte, trim_start};
 use std::alloc::{AllocError, Global};
 
 /// A type of a row: what a program declares, and what is passed. Without a bar both are the same.
 #[derive(Debug, Drop)]
 pub struct CallType {
+    /// Before the bar, without FAR and with single blanks.
     pub formal: Bytes,
+    /// After the bar, in the same form.
     pub actual: Bytes,
 }
 
-pub(crate) fn is_blank(byte: u8) -> bool
-    ensures { result ≡ is_blank_byte byte }
-{
-    byte == b' ' || byte == b'\t' || byte == b'\r'
-}
-
-pub(crate) fn is_name_byte(byte: u8) -> bool
-    ensures { result ≡ is_in_names byte }
-{
-    byte.is_ascii_alphanumeric() || byte == b'_'
-}
-
 fn is_far(word: &[u8]) -> bool
-    ensures { result ≡ bytes_eq word.now (codes "FAR") }
+    ensures { result ≡ is_the_word_far word.now }
 {
     word == b"FAR".as_slice()
 }
 
-/// Puts a word behind a text, unless it is FAR.
+/// Puts a word after a text, unless it is FAR.
 fn put_word(text: &mut Bytes, word: &Bytes) -> Result<(), AllocError>
-    ensures { OnOk result (text.new ≡ text.old ++ kept_word word.now) }
+    ensures { OnOk result (text.new ≡ text.old ++ (if is_the_word_far word.now then [] else word.now)) }
 {
     if is_far(word.as_slice()) {
         return Ok(());
@@ -43,11 +31,13 @@ fn put_word(text: &mut Bytes, word: &Bytes) -> Result<(), AllocError>
     text.append(word.as_slice())
 }
 
-/// Puts a byte behind a text and the word that has begun.
+/// Puts a byte after a text and the word that has begun.
 fn put_byte(text: &mut Bytes, word: &mut Bytes, byte: u8) -> Result<(), AllocError>
-    ensures { OnOk result ((rest : List ℕ) → text.new ++ without_far word.new rest ≡ text.old ++ without_far word.old (byte ∷ rest)) }
+    requires { list_all is_a_word_byte word.old ≡ true }
+    ensures word { OnOk result (list_all is_a_word_byte word.new ≡ true) }
+    ensures text { OnOk result ((rest : List ℕ) → text.new ++ without_far (word.new ++ rest) ≡ text.old ++ without_far (word.old ++ byte ∷ rest)) }
 {
-    if is_name_byte(byte) {
+    if is_word_byte(byte) {
         return word.push(byte);
     }
     put_word(text, word)?;
@@ -56,7 +46,7 @@ fn put_byte(text: &mut Bytes, word: &mut Bytes, byte: u8) -> Result<(), AllocErr
 }
 
 fn drop_far(alloc: Global, part: &[u8]) -> Result<Bytes, AllocError>
-    ensures { IfOk result (λ text. text ≡ without_far [] part.now) }
+    ensures { IfOk result (λ text. text ≡ without_far part.now) }
 {
     let mut text = Bytes::new(alloc);
     let mut word = Bytes::new(alloc);
@@ -67,11 +57,11 @@ fn drop_far(alloc: Global, part: &[u8]) -> Result<Bytes, AllocError>
     Ok(text)
 }
 
-/// Puts a byte behind a text. Tells whether it is a blank, which stands for no byte yet.
+/// Puts a byte after a text. Tells whether it is a blank, which stands for no byte yet.
 fn put_single(text: &mut Bytes, gap: bool, byte: u8) -> Result<bool, AllocError>
-    ensures { IfOk result (λ after. (rest : List ℕ) → text.new ++ single after rest ≡ text.old ++ single gap (byte ∷ rest)) }
+    ensures { IfOk result (λ after. (rest : List ℕ) → text.new ++ added after (between_blanks rest) ≡ text.old ++ added gap (between_blanks (byte ∷ rest))) }
 {
-    if is_blank(byte) {
+    if is_line_blank(byte) {
         return Ok(true);
     }
     if gap {
@@ -83,7 +73,7 @@ fn put_single(text: &mut Bytes, gap: bool, byte: u8) -> Result<bool, AllocError>
 }
 
 fn single_blanks(alloc: Global, part: &[u8]) -> Result<Bytes, AllocError>
-    ensures { IfOk result (λ text. text ≡ single false part.now) }
+    ensures { IfOk result (λ text. text ≡ added false (between_blanks part.now)) }
 {
     let mut text = Bytes::new(alloc);
     let mut gap = false;
@@ -96,12 +86,47 @@ fn single_blanks(alloc: Global, part: &[u8]) -> Result<Bytes, AllocError>
     Ok(text)
 }
 
-#[tactic(auto, unfolding(crate::specs::Types::plain))]
+#[tactic(auto, unfolding(crate::specs::Types::plain), using(crate::proofs::Spacing::trimmed_words))]
 fn plain(alloc: Global, part: &[u8]) -> Result<Bytes, AllocError>
     ensures { IfOk result (λ text. text ≡ plain part.now) }
 {
     let kept = drop_far(alloc, part)?;
     single_blanks(alloc, trim_start(kept.as_slice()))
+}
+
+fn is_bar(byte: u8) -> bool
+    ensures { result ≡ (byte == 124) }
+{
+    byte == b'|'
+}
+
+/// The place of the first bar, or the length where there is none.
+fn place_of_bar(field: &[u8]) -> usize
+    ensures place { result ≡ position_or_len (λ b. b == 124) field.now }
+    ensures within { result ≤ length field.now }
+{
+    let mut place = 0;
+    let mut rest = field;
+    while let [first, others @ ..] = rest {
+        if is_bar(*first) {
+            return place;
+        }
+        place += 1;
+        rest = others;
+    }
+    place
+}
+
+/// What stands before the first bar, and what stands after it.
+fn sides(field: &[u8]) -> (&[u8], &[u8])
+    ensures before { result.0.now ≡ before_first (λ b. b == 124) field.now }
+    ensures after { result.1.now ≡ after_first (λ b. b == 124) field.now }
+{
+    let place = place_of_bar(field);
+    if place < field.len() {
+        return (&field[..place], &field[place + 1..]);
+    }
+    (field, &[])
 }
 
 fn bars(field: &[u8]) -> usize
@@ -124,9 +149,9 @@ impl CallType {
         ensures { IfOk result (λ t. t ≡ type_of field.now) }
     {
         if bars(field) == 1 {
-            let (before, behind) = cut(field, b'|');
+            let (before, after) = sides(field);
             let formal = plain(alloc, before)?;
-            let actual = plain(alloc, behind)?;
+            let actual = plain(alloc, after)?;
             return Ok(CallType { formal, actual });
         }
         let formal = plain(alloc, field)?;

@@ -21,7 +21,7 @@ level token.And = 1
 level token.Or = 2
 level other = 3
 
--- What stands behind is no operator below this level.
+-- What comes after is no operator below this level.
 abbrev pub Stops : ℕ → List Token → Type 0
 Stops n rest = Heads (λ t. n ≤ level t) rest
 
@@ -47,17 +47,17 @@ unary_on : (d : ℕ) (t : Token) (ts : List Token) (o : Out Token Condition) →
 unfolding unary_at
 unary_on d t ts o h = h
 
--- "(", a name and ")" are read behind "defined".
+-- "(", a name and ")" are read after "defined".
 defined_on : (name : List ℕ) (rest : List Token) → defined_rest (token.Open ∷ token.Name name ∷ token.Close ∷ rest) ≡ Ok (condition.Defined name, rest)
 unfolding defined_rest
 defined_on name rest = refl
 
--- A unary is read behind "!".
+-- A unary is read after "!".
 not_on : (unary : Reading) (ts : List Token) (a : Condition) (rest : List Token) → unary ts ≡ Ok (a, rest) → not_rest unary ts ≡ Ok (condition.Not a, rest)
 unfolding not_rest
 not_on unary ts a rest e = rw e refl
 
--- A disjunction and ")" are read behind "(".
+-- A disjunction and ")" are read after "(".
 group_on : (read : Reading) (ts : List Token) (a : Condition) (rest : List Token) → read ts ≡ Ok (a, token.Close ∷ rest) → group_rest read ts ≡ Ok (a, rest)
 unfolding group_rest
 group_on read ts a rest e = rw e refl
@@ -68,7 +68,7 @@ pass_on unary a [] s = absurd s
 pass_on unary a (token.Compare by ∷ us) s = absurd (omega arith)
 pass_on unary a (other ∷ us) s = refl
 
--- A unary with no comparison behind it is read alone.
+-- A unary with no comparison after it is read alone.
 lone_on : (unary : Reading) (ts : List Token) (a : Condition) (rest : List Token) → unary ts ≡ Ok (a, rest) → Stops 1 rest → comparison unary ts ≡ Ok (a, rest)
 unfolding comparison
 lone_on unary ts a rest e s = ap (λ o. bind o (λ x. dispatch (compare_pick unary x))) e ∙ pass_on unary a rest s
@@ -78,12 +78,12 @@ compare_on : (unary : Reading) (by : Comparison) (ts us : List Token) (a b : Con
 unfolding comparison compare_rest
 compare_on unary by ts us a b rest e f = rw (e, f) refl
 
--- A part is read behind "&&".
+-- A part is read after "&&".
 and_on : (part : Reading) (a b : Condition) (us rest : List Token) → part us ≡ Ok (b, rest) → and_rest part a us ≡ Ok (condition.And a b, rest)
 unfolding and_rest
 and_on part a b us rest e = rw e refl
 
--- A part is read behind "||".
+-- A part is read after "||".
 or_on : (part : Reading) (a b : Condition) (us rest : List Token) → part us ≡ Ok (b, rest) → or_rest part a us ≡ Ok (condition.Or a b, rest)
 unfolding or_rest
 or_on part a b us rest e = rw e refl
@@ -133,7 +133,7 @@ mutual
   complete_unary (Group ts a rest x) (suc d) l =
       unary_on d token.Open ts _ (group_on (whole (unary_at d)) ts a rest (complete_disjunction x d (omega arith) (omega arith) ∙ or_over (conjunction (comparison (unary_at d))) (or_short_at d) a (token.Close ∷ rest) (omega arith)))
 
-  -- A comparison is read, with its tree, where no further comparison stands behind it.
+  -- A comparison is read, with its tree, where no further comparison comes after it.
   pub complete_comparison : {ts : List Token} {a : Condition} {rest : List Token} → IsComparison ts a rest → (d : ℕ) → length ts ≤ d → Stops 1 rest → comparison (unary_at d) ts ≡ Ok (a, rest)
   complete_comparison (Lone ts a rest x) d l s = lone_on (unary_at d) ts a rest (complete_unary x d l) s
   complete_comparison (Compare by ts us a b rest x y) d l s = compare_on (unary_at d) by ts us a b rest (complete_unary x d l) (complete_unary y d (omega (arith, unary_less x)))

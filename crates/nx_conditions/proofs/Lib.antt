@@ -1,5 +1,5 @@
 pub mod Tokenizing
-pub mod Digits
+pub mod Words
 pub mod Lengths
 pub mod Sound
 pub mod Complete

@@ -65,7 +65,7 @@ name_front (other ∷ us) name rest h = absurd cc
 
 -- ---- Unaries.
 
--- What was read behind "defined" is a name in parentheses.
+-- What was read after "defined" is a name in parentheses.
 found_defined : (ts : List Token) (a : Condition) (rest : List Token) → defined_rest ts ≡ Ok (a, rest) → IsUnary (token.Defined ∷ ts) a rest
 unfolding defined_rest
 found_defined ts a rest h =
@@ -79,14 +79,14 @@ found_defined ts a rest h =
     subst (λ u. IsUnary (token.Defined ∷ u) a rest) (sym all)
     (moved (λ x r. IsUnary (token.Defined ∷ token.Open ∷ token.Name n.0 ∷ token.Close ∷ c.1) x r) (condition.Defined n.0) a c.1 rest (ok_same (condition.Defined n.0) a c.1 rest c.3) (Defined n.0 c.1))
 
--- What was read behind "!" is a unary.
+-- What was read after "!" is a unary.
 found_not : (unary : Reading) → Sounds IsUnary unary → (ts : List Token) (a : Condition) (rest : List Token) → not_rest unary ts ≡ Ok (a, rest) → IsUnary (token.Not ∷ ts) a rest
 unfolding not_rest
 found_not unary s ts a rest h =
     let m = bound (unary ts) _ (a, rest) h in
     moved (λ x r. IsUnary (token.Not ∷ ts) x r) (condition.Not m.0) a m.1 rest (ok_same (condition.Not m.0) a m.1 rest m.3) (Not ts m.0 m.1 (s ts m.0 m.1 m.2))
 
--- What was read behind "(" is a disjunction and ")".
+-- What was read after "(" is a disjunction and ")".
 found_group : (read : Reading) → Sounds IsDisjunction read → (ts : List Token) (a : Condition) (rest : List Token) → group_rest read ts ≡ Ok (a, rest) → IsUnary (token.Open ∷ ts) a rest
 unfolding group_rest
 found_group read s ts a rest h =
@@ -111,7 +111,7 @@ unary_case unary read s w (t ∷ ts) a rest h = unary_by unary read s w t ts a r
 
 -- ---- Comparisons.
 
--- By the token behind the left side.
+-- By the token after the left side.
 compare_by : (unary : Reading) → Sounds IsUnary unary → (ts : List Token) (l : Condition) (t : Token) (us : List Token) → IsUnary ts l (t ∷ us) → (a : Condition) (rest : List Token) → picked (compare_pick unary l t) t us ≡ Ok (a, rest) → IsComparison ts a rest
 unfolding compare_rest
 compare_by unary s ts l (token.Compare by) us x a rest h =
@@ -119,7 +119,7 @@ compare_by unary s ts l (token.Compare by) us x a rest h =
     moved (λ y r. IsComparison ts y r) (condition.Compare by l m.0) a m.1 rest (ok_same (condition.Compare by l m.0) a m.1 rest m.3) (Compare by ts us l m.0 m.1 x (s us m.0 m.1 m.2))
 compare_by unary s ts l other us x a rest h = moved (λ y r. IsComparison ts y r) l a (other ∷ us) rest (ok_same l a (other ∷ us) rest h) (Lone ts l (other ∷ us) x)
 
--- A token stands behind the left side.
+-- A token stands after the left side.
 compare_case : (unary : Reading) → Sounds IsUnary unary → (ts : List Token) (l : Condition) (mid : List Token) → IsUnary ts l mid → (a : Condition) (rest : List Token) → dispatch (compare_pick unary l) mid ≡ Ok (a, rest) → IsComparison ts a rest
 compare_case unary s ts l [] x a rest h = absurd cc
 compare_case unary s ts l (t ∷ us) x a rest h = compare_by unary s ts l t us x a rest h

@@ -7,9 +7,8 @@ use Rattle.nx_conditions.specs.declared.token.Token.{Token}
 use Rattle.nx_conditions.specs.declared.token.Token.TheVariants as token
 use Rattle.nx_conditions.specs.declared.stop.ConditionStop.{ConditionStop}
 use Rattle.nx_conditions.specs.declared.stop.ConditionStop.TheVariants as stop
-use Rattle.nx_conditions.specs.Answers.{IsNone, IsGiven}
-use Rattle.nx_conditions.specs.Bytes.{after_blanks}
-use Rattle.nx_conditions.specs.Tokens.{token_at, AreTokens, End, More, AreTokensOf}
+use Rattle.nx_conditions.specs.Answers.{IsNotFound, IsGiven}
+use Rattle.nx_conditions.specs.Tokens.{token_at, after_blanks, AreTokens, End, More, AreTokensOf}
 
 -- These tokens stand before rest: the text's tokens are these and those of rest.
 pub record Reached (bytes : List ℕ) (found : List Token) (rest : List ℕ) : Type 0 where
@@ -70,7 +69,7 @@ pub reached_next : (bytes : List ℕ) (found more : List Token) (rest behind aft
 reached_next bytes found more rest behind after t e m a r = subst (λ x. Reached bytes x after) (sym m) (subst (λ x. Reached bytes (found ++ t ∷ []) x) (sym a) (reached_more bytes found rest behind t e r))
 
 -- Where the token at the front is bad, so is the text.
-pub reached_stop : (bytes : List ℕ) (found : List Token) (rest : List ℕ) (e : ConditionStop) → IsNone e (token_at rest) → (rest ≡ [] → ⊥) → Reached bytes found rest → (ts : List Token) → AreTokensOf bytes ts → IsGiven {X = List Token} (Err e) ts
+pub reached_stop : (bytes : List ℕ) (found : List Token) (rest : List ℕ) (e : ConditionStop) → IsNotFound e (token_at rest) → (rest ≡ [] → ⊥) → Reached bytes found rest → (ts : List Token) → AreTokensOf bytes ts → IsGiven {X = List Token} (Err e) ts
 reached_stop bytes found rest stop.Bad h n r ts x = reached_bad bytes found rest ts h n r x
 reached_stop bytes found rest stop.Memory h n r ts x = tt
 

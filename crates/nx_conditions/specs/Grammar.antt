@@ -7,7 +7,7 @@ use Rattle.nx_conditions.specs.declared.condition.Condition.{Condition}
 use Rattle.nx_conditions.specs.declared.condition.Condition.TheVariants as condition
 use Rattle.nx_conditions.specs.Tokens.{AreTokensOf}
 
--- Each relation is over the tokens, the tree and the tokens behind it.
+-- Each relation is over the tokens, the tree and the tokens after it.
 mutual
   -- A number, a name, whether a name is defined, a negation, or a condition in parentheses.
   pub data IsUnary : List Token → Condition → List Token → Type 0 where

@@ -1,4 +1,3 @@
-pub mod Bytes
 pub mod Tokens
 pub mod Grammar
 pub mod Parsing

@@ -68,7 +68,7 @@ unary_pick unary whole other = Refuse Syntax
 unfoldable pub compare_rest : Reading → Comparison → Condition → Reading
 compare_rest unary by a = seq unary (λ b. done (condition.Compare by a b))
 
--- A comparison behind its left side, or that alone.
+-- A comparison after its left side, or that alone.
 abbrev pub compare_pick : Reading → Condition → Token → Pick Token Condition
 compare_pick unary a (token.Compare by) = Take (compare_rest unary by a)
 compare_pick unary a other = Pass a
@@ -85,11 +85,11 @@ and_rest part a = seq part (λ b. done (condition.And a b))
 unfoldable pub or_rest : Reading → Condition → Reading
 or_rest part a = seq part (λ b. done (condition.Or a b))
 
--- "&&" behind a conjunction, or that alone.
+-- "&&" after a conjunction, or that alone.
 abbrev pub and_pick : Reading → Condition → Token → Pick Token Condition
 and_pick part = chain_pick is_and (and_rest part)
 
--- "||" behind a disjunction, or that alone.
+-- "||" after a disjunction, or that alone.
 abbrev pub or_pick : Reading → Condition → Token → Pick Token Condition
 or_pick part = chain_pick is_or (or_rest part)
 

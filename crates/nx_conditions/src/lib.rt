@@ -1,8 +1,8 @@
-//! The conditions of a call table: how they are spelled, their trees, and what they are worth.
+//! The conditions of a call table: how they are spelled, their trees, and their values.
 #![tactic(auto)]
 
-mod bytes;
 mod condition;
+mod evaluate;
 mod meaning;
 mod parse;
 mod read;
@@ -11,7 +11,6 @@ mod stop;
 mod tests;
 mod token;
 mod tokenize;
-mod worth;
 
 pub use condition::Condition;
 pub use meaning::{Meaning, Meanings};
@@ -19,4 +18,4 @@ pub use read::read_condition;
 pub use stop::ConditionStop;
 pub use token::{Comparison, Token};
 pub use tokenize::tokens;
-pub use worth::{holds, value};
+pub use evaluate::{holds, value};

@@ -26,7 +26,7 @@ ghost use Rattle.nx_conditions.specs.Parsing.{
   full_at,
   condition_at,
 };
-ghost use Rattle.nx_conditions.specs.Answers.{Gives};
+ghost use Rattle.nx_conditions.specs.Answers.{IsParsed};
 ghost use Rattle.nx_conditions.specs.declared.parse.ParseStop.TheVariants.{Memory};
 
 use crate::{Comparison, Condition, Token};
@@ -80,7 +80,7 @@ fn is_or(token: &Token) -> bool
 }
 
 fn open(tokens: &[Token]) -> Result<(&Token, &[Token]), ParseStop>
-    ensures gives { Gives (λ x. (x.0.now, x.1.now)) result (expect is_open tokens.now) }
+    ensures gives { IsParsed (λ x. (x.0.now, x.1.now)) result (expect is_open tokens.now) }
     ensures shorter { IfOk result (λ x. length x.1.now ≤ length tokens.now) }
 {
     match tokens {
@@ -90,7 +90,7 @@ fn open(tokens: &[Token]) -> Result<(&Token, &[Token]), ParseStop>
 }
 
 fn close(tokens: &[Token]) -> Result<(&Token, &[Token]), ParseStop>
-    ensures gives { Gives (λ x. (x.0.now, x.1.now)) result (expect is_close tokens.now) }
+    ensures gives { IsParsed (λ x. (x.0.now, x.1.now)) result (expect is_close tokens.now) }
     ensures shorter { IfOk result (λ x. length x.1.now ≤ length tokens.now) }
 {
     match tokens {
@@ -100,7 +100,7 @@ fn close(tokens: &[Token]) -> Result<(&Token, &[Token]), ParseStop>
 }
 
 fn end(tokens: &[Token]) -> Result<(&Token, &[Token]), ParseStop>
-    ensures gives { Gives (λ x. (x.0.now, x.1.now)) result (expect is_end tokens.now) }
+    ensures gives { IsParsed (λ x. (x.0.now, x.1.now)) result (expect is_end tokens.now) }
 {
     match tokens {
         [first, rest @ ..] if is_end(first) => Ok((first, rest)),
@@ -109,7 +109,7 @@ fn end(tokens: &[Token]) -> Result<(&Token, &[Token]), ParseStop>
 }
 
 fn name(alloc: Global, tokens: &[Token]) -> Result<(Items<u8>, &[Token]), ParseStop>
-    ensures gives { Gives (λ x. (x.0, x.1.now)) result (dispatch name_pick tokens.now) }
+    ensures gives { IsParsed (λ x. (x.0, x.1.now)) result (dispatch name_pick tokens.now) }
     ensures shorter { IfOk result (λ x. length x.1.now ≤ length tokens.now) }
 {
     match tokens {
@@ -123,7 +123,7 @@ fn name(alloc: Global, tokens: &[Token]) -> Result<(Items<u8>, &[Token]), ParseS
 
 #[tactic(auto, unfolding(crate::specs::Parsing::defined_rest))]
 fn defined_rest(alloc: Global, tokens: &[Token]) -> Result<(Condition, &[Token]), ParseStop>
-    ensures gives { Gives (λ x. (x.0, x.1.now)) result (defined_rest tokens.now) }
+    ensures gives { IsParsed (λ x. (x.0, x.1.now)) result (defined_rest tokens.now) }
     ensures shorter { IfOk result (λ x. length x.1.now ≤ length tokens.now) }
 {
     let (_, rest) = open(tokens)?;
@@ -135,7 +135,7 @@ fn defined_rest(alloc: Global, tokens: &[Token]) -> Result<(Condition, &[Token])
 #[tactic(auto, unfolding(crate::specs::Parsing::not_rest))]
 #[cycle(parse)]
 fn not_rest(alloc: Global, tokens: &[Token], depth: u32) -> Result<(Condition, &[Token]), ParseStop>
-    ensures gives { Gives (λ x. (x.0, x.1.now)) result (not_rest (unary_at depth) tokens.now) }
+    ensures gives { IsParsed (λ x. (x.0, x.1.now)) result (not_rest (unary_at depth) tokens.now) }
     ensures shorter { IfOk result (λ x. length x.1.now ≤ length tokens.now) }
 {
     let (part, rest) = unary(alloc, tokens, depth)?;
@@ -149,7 +149,7 @@ fn group_rest(
     tokens: &[Token],
     depth: u32,
 ) -> Result<(Condition, &[Token]), ParseStop>
-    ensures gives { Gives (λ x. (x.0, x.1.now)) result (group_rest (whole (unary_at depth)) tokens.now) }
+    ensures gives { IsParsed (λ x. (x.0, x.1.now)) result (group_rest (whole (unary_at depth)) tokens.now) }
     ensures shorter { IfOk result (λ x. length x.1.now ≤ length tokens.now) }
 {
     let (inner, rest) = disjunction(alloc, tokens, depth)?;
@@ -160,7 +160,7 @@ fn group_rest(
 /// What the first token begins, where its parts have at most so many negations and parentheses.
 #[cycle(parse)]
 fn begun(alloc: Global, tokens: &[Token], depth: u32) -> Result<(Condition, &[Token]), ParseStop>
-    ensures gives { Gives (λ x. (x.0, x.1.now)) result (dispatch (unary_pick (unary_at depth) (whole (unary_at depth))) tokens.now) }
+    ensures gives { IsParsed (λ x. (x.0, x.1.now)) result (dispatch (unary_pick (unary_at depth) (whole (unary_at depth))) tokens.now) }
     ensures shorter { IfOk result (λ x. length x.1.now ≤ length tokens.now) }
 {
     match tokens {
@@ -180,7 +180,7 @@ fn begun(alloc: Global, tokens: &[Token], depth: u32) -> Result<(Condition, &[To
 #[tactic(auto, unfolding(crate::specs::Parsing::unary_at))]
 #[cycle(parse)]
 fn unary(alloc: Global, tokens: &[Token], depth: u32) -> Result<(Condition, &[Token]), ParseStop>
-    ensures gives { Gives (λ x. (x.0, x.1.now)) result (unary_at depth tokens.now) }
+    ensures gives { IsParsed (λ x. (x.0, x.1.now)) result (unary_at depth tokens.now) }
     ensures shorter { IfOk result (λ x. length x.1.now ≤ length tokens.now) }
 {
     if depth == 0 {
@@ -199,7 +199,7 @@ fn compare_rest(
     tokens: &[Token],
     depth: u32,
 ) -> Result<(Condition, &[Token]), ParseStop>
-    ensures gives { Gives (λ x. (x.0, x.1.now)) result (compare_rest (unary_at depth) by left tokens.now) }
+    ensures gives { IsParsed (λ x. (x.0, x.1.now)) result (compare_rest (unary_at depth) by left tokens.now) }
     ensures shorter { IfOk result (λ x. length x.1.now ≤ length tokens.now) }
 {
     let (right, rest) = unary(alloc, tokens, depth)?;
@@ -215,18 +215,18 @@ fn comparison(
     tokens: &[Token],
     depth: u32,
 ) -> Result<(Condition, &[Token]), ParseStop>
-    ensures gives { Gives (λ x. (x.0, x.1.now)) result (comparison (unary_at depth) tokens.now) }
+    ensures gives { IsParsed (λ x. (x.0, x.1.now)) result (comparison (unary_at depth) tokens.now) }
     ensures shorter { IfOk result (λ x. length x.1.now ≤ length tokens.now) }
 {
     let (left, rest) = unary(alloc, tokens, depth)?;
     match rest {
         [] => Err(ParseStop::Fault(Kind::Syntax, rest)),
-        [Token::Compare(by), behind @ ..] => compare_rest(alloc, *by, left, behind, depth),
+        [Token::Compare(by), others @ ..] => compare_rest(alloc, *by, left, others, depth),
         _ => Ok((left, rest)),
     }
 }
 
-fn behind_and(tokens: &[Token]) -> Option<&[Token]>
+fn after_and(tokens: &[Token]) -> Option<&[Token]>
     ensures gives { option_map (λ x. x.now) result ≡ behind is_and tokens.now }
     ensures shorter { IfSome result (λ x. length x.now < length tokens.now) }
 {
@@ -236,7 +236,7 @@ fn behind_and(tokens: &[Token]) -> Option<&[Token]>
     }
 }
 
-fn behind_or(tokens: &[Token]) -> Option<&[Token]>
+fn after_or(tokens: &[Token]) -> Option<&[Token]>
     ensures gives { option_map (λ x. x.now) result ≡ behind is_or tokens.now }
     ensures shorter { IfSome result (λ x. length x.now < length tokens.now) }
 {
@@ -246,9 +246,9 @@ fn behind_or(tokens: &[Token]) -> Option<&[Token]>
     }
 }
 
-/// What was read, where a token stands behind it.
+/// What was read, where a token stands after it.
 fn closed(left: Condition, tokens: &[Token]) -> Result<(Condition, &[Token]), ParseStop>
-    ensures gives { Gives (λ x. (x.0, x.1.now)) result (closed left tokens.now) }
+    ensures gives { IsParsed (λ x. (x.0, x.1.now)) result (closed left tokens.now) }
     ensures shorter { IfOk result (λ x. length x.1.now ≤ length tokens.now) }
 {
     match tokens {
@@ -265,7 +265,7 @@ fn and_rest(
     tokens: &[Token],
     depth: u32,
 ) -> Result<(Condition, &[Token]), ParseStop>
-    ensures gives { Gives (λ x. (x.0, x.1.now)) result (and_rest (comparison (unary_at depth)) left tokens.now) }
+    ensures gives { IsParsed (λ x. (x.0, x.1.now)) result (and_rest (comparison (unary_at depth)) left tokens.now) }
     ensures shorter { IfOk result (λ x. length x.1.now ≤ length tokens.now) }
 {
     let (right, rest) = comparison(alloc, tokens, depth)?;
@@ -274,7 +274,7 @@ fn and_rest(
     Ok((Condition::And(left, right), rest))
 }
 
-/// The rest of a conjunction behind its first part.
+/// The rest of a conjunction after its first part.
 #[cycle(parse)]
 fn and_chain(
     alloc: Global,
@@ -282,17 +282,17 @@ fn and_chain(
     tokens: &[Token],
     depth: u32,
 ) -> Result<(Condition, &[Token]), ParseStop>
-    ensures gives { Gives (λ x. (x.0, x.1.now)) result (loop (and_pick (comparison (unary_at depth))) left tokens.now) }
+    ensures gives { IsParsed (λ x. (x.0, x.1.now)) result (loop (and_pick (comparison (unary_at depth))) left tokens.now) }
     ensures shorter { IfOk result (λ x. length x.1.now ≤ length tokens.now) }
 {
     let mut left = left;
     let mut rest = tokens;
-    while let Some(behind) = behind_and(rest) {
-        match and_rest(alloc, left, behind, depth) {
+    while let Some(others) = after_and(rest) {
+        match and_rest(alloc, left, others, depth) {
             Err(stop) => return Err(stop),
-            Ok((joined, after)) => {
+            Ok((joined, others)) => {
                 left = joined;
-                rest = after;
+                rest = others;
             }
         }
     }
@@ -306,7 +306,7 @@ fn conjunction(
     tokens: &[Token],
     depth: u32,
 ) -> Result<(Condition, &[Token]), ParseStop>
-    ensures gives { Gives (λ x. (x.0, x.1.now)) result (conjunction (comparison (unary_at depth)) tokens.now) }
+    ensures gives { IsParsed (λ x. (x.0, x.1.now)) result (conjunction (comparison (unary_at depth)) tokens.now) }
     ensures shorter { IfOk result (λ x. length x.1.now ≤ length tokens.now) }
 {
     match comparison(alloc, tokens, depth) {
@@ -323,7 +323,7 @@ fn or_rest(
     tokens: &[Token],
     depth: u32,
 ) -> Result<(Condition, &[Token]), ParseStop>
-    ensures gives { Gives (λ x. (x.0, x.1.now)) result (or_rest (conjunction (comparison (unary_at depth))) left tokens.now) }
+    ensures gives { IsParsed (λ x. (x.0, x.1.now)) result (or_rest (conjunction (comparison (unary_at depth))) left tokens.now) }
     ensures shorter { IfOk result (λ x. length x.1.now ≤ length tokens.now) }
 {
     let (right, rest) = conjunction(alloc, tokens, depth)?;
@@ -332,7 +332,7 @@ fn or_rest(
     Ok((Condition::Or(left, right), rest))
 }
 
-/// The rest of a disjunction behind its first part.
+/// The rest of a disjunction after its first part.
 #[cycle(parse)]
 fn or_chain(
     alloc: Global,
@@ -340,17 +340,17 @@ fn or_chain(
     tokens: &[Token],
     depth: u32,
 ) -> Result<(Condition, &[Token]), ParseStop>
-    ensures gives { Gives (λ x. (x.0, x.1.now)) result (loop (or_pick (conjunction (comparison (unary_at depth)))) left tokens.now) }
+    ensures gives { IsParsed (λ x. (x.0, x.1.now)) result (loop (or_pick (conjunction (comparison (unary_at depth)))) left tokens.now) }
     ensures shorter { IfOk result (λ x. length x.1.now ≤ length tokens.now) }
 {
     let mut left = left;
     let mut rest = tokens;
-    while let Some(behind) = behind_or(rest) {
-        match or_rest(alloc, left, behind, depth) {
+    while let Some(others) = after_or(rest) {
+        match or_rest(alloc, left, others, depth) {
             Err(stop) => return Err(stop),
-            Ok((joined, after)) => {
+            Ok((joined, others)) => {
                 left = joined;
-                rest = after;
+                rest = others;
             }
         }
     }
@@ -364,7 +364,7 @@ fn disjunction(
     tokens: &[Token],
     depth: u32,
 ) -> Result<(Condition, &[Token]), ParseStop>
-    ensures gives { Gives (λ x. (x.0, x.1.now)) result (whole (unary_at depth) tokens.now) }
+    ensures gives { IsParsed (λ x. (x.0, x.1.now)) result (whole (unary_at depth) tokens.now) }
     ensures shorter { IfOk result (λ x. length x.1.now ≤ length tokens.now) }
 {
     match conjunction(alloc, tokens, depth) {
@@ -375,7 +375,7 @@ fn disjunction(
 
 #[tactic(auto, unfolding(crate::specs::Parsing::full_at))]
 fn full(alloc: Global, tokens: &[Token], depth: u32) -> Result<(Condition, &[Token]), ParseStop>
-    ensures { Gives (λ x. (x.0, x.1.now)) result (full_at depth tokens.now) }
+    ensures { IsParsed (λ x. (x.0, x.1.now)) result (full_at depth tokens.now) }
 {
     let (inner, rest) = disjunction(alloc, tokens, depth)?;
     let (_, rest) = end(rest)?;
@@ -388,7 +388,7 @@ pub(crate) fn condition(
     tokens: &[Token],
     depth: u32,
 ) -> Result<(Condition, &[Token]), ParseStop>
-    ensures { Gives (λ x. (x.0, x.1.now)) result (condition_at depth tokens.now) }
+    ensures { IsParsed (λ x. (x.0, x.1.now)) result (condition_at depth tokens.now) }
 {
     match tokens {
         [] => Err(ParseStop::Fault(Kind::Syntax, tokens)),

@@ -1,36 +1,69 @@
 ghost use Rattle.std.specs.Prelude.{◌≡◌, ◌<◌, ◌≤◌, ◌+◌, length, IfOk, IfSome, List, ◌∷◌};
+ghost use Rattle.std.specs.Char.{is_ascii_digit, is_ascii_hexdigit};
 ghost use Rattle.std.specs.Option.{option_map};
-ghost use Rattle.std.specs.List.{list_all};
-ghost use Rattle.nx_conditions.specs.Bytes.{is_digit, is_hex_digit, run};
-ghost use Rattle.nx_conditions.specs.Tokens.{are_some, behind_prefix, word_token, two_mark, one_mark, mark_at, word_at, token_at, AreTokensOf};
-ghost use Rattle.nx_conditions.specs.Answers.{Tells, IsGiven};
+ghost use Rattle.std.specs.List.{list_all, prefix_len, take_while};
+ghost use Rattle.nx_base.specs.TextBytes.{is_word_byte as is_a_word_byte, without_leading};
+ghost use Rattle.nx_conditions.specs.Tokens.{are_some, after_prefix, word_token, two_mark, one_mark, mark_at, word_at, token_at, after_blanks, AreTokensOf};
+ghost use Rattle.nx_conditions.specs.Answers.{IsFound, IsGiven};
 ghost use Rattle.nx_conditions.specs.declared.token.Token.{Token};
 
-use crate::bytes::{after_blanks, is_digit, is_hex_digit, is_word_byte, number, run};
 use crate::{Comparison, ConditionStop, Token};
+use nx_base::{is_blank, is_word_byte, number_of};
 use sqlite_items::Items;
 use std::alloc::Global;
 
+/// The bytes without the spaces and tabs that they begin with.
+fn after_blanks(bytes: &[u8]) -> &[u8]
+    ensures rest { result.now ≡ after_blanks bytes.now }
+    ensures shorter { length result.now ≤ length bytes.now }
+{
+    let mut rest = bytes;
+    while let [first, others @ ..] = rest {
+        if !is_blank(*first) {
+            return rest;
+        }
+        rest = others;
+    }
+    rest
+}
+
+/// How many bytes the word has that the bytes begin with.
+fn word_length(bytes: &[u8]) -> usize
+    ensures length { result ≡ prefix_len is_a_word_byte bytes.now }
+    ensures within { result ≤ length bytes.now }
+{
+    let mut count = 0;
+    let mut rest = bytes;
+    while let [first, others @ ..] = rest {
+        if !is_word_byte(*first) {
+            return count;
+        }
+        count += 1;
+        rest = others;
+    }
+    count
+}
+
 fn are_digits(word: &[u8]) -> bool
-    ensures { result ≡ list_all is_digit word.now }
+    ensures { result ≡ list_all is_ascii_digit word.now }
 {
-    word.iter().all(|byte| is_digit(*byte))
+    word.iter().all(|byte| byte.is_ascii_digit())
 }
 
-fn all_hex_digits(digits: &[u8]) -> bool
-    ensures { result ≡ list_all is_hex_digit digits.now }
+fn all_hexadecimal(digits: &[u8]) -> bool
+    ensures { result ≡ list_all is_ascii_hexdigit digits.now }
 {
-    digits.iter().all(|byte| is_hex_digit(*byte))
+    digits.iter().all(|byte| byte.is_ascii_hexdigit())
 }
 
-fn are_hex_digits(digits: &[u8]) -> bool
-    ensures { result ≡ are_some is_hex_digit digits.now }
+fn are_hexadecimal(digits: &[u8]) -> bool
+    ensures { result ≡ are_some is_ascii_hexdigit digits.now }
 {
-    0 < digits.len() && all_hex_digits(digits)
+    0 < digits.len() && all_hexadecimal(digits)
 }
 
-fn behind_prefix(word: &[u8]) -> &[u8]
-    ensures { result.now ≡ behind_prefix word.now }
+fn after_prefix(word: &[u8]) -> &[u8]
+    ensures { result.now ≡ after_prefix word.now }
 {
     match word {
         [a, b, digits @ ..] if *a == b'0' && *b == b'x' => digits,
@@ -40,7 +73,7 @@ fn behind_prefix(word: &[u8]) -> &[u8]
 
 /// The token of a number that was found.
 fn number_token(number: Option<u64>) -> Result<Token, ConditionStop>
-    ensures { Tells (λ t. t) result (option_map Token.Number number) }
+    ensures { IsFound (λ t. t) result (option_map Token.Number number) }
 {
     match number {
         Some(n) => Ok(Token::Number(n)),
@@ -50,17 +83,17 @@ fn number_token(number: Option<u64>) -> Result<Token, ConditionStop>
 
 /// The token of a word.
 fn word_token(alloc: Global, word: &[u8]) -> Result<Token, ConditionStop>
-    ensures { Tells (λ t. t) result (word_token word.now) }
+    ensures { IsFound (λ t. t) result (word_token word.now) }
 {
     if word == b"defined".as_slice() {
         return Ok(Token::Defined);
     }
     if are_digits(word) {
-        return number_token(number(word, 10));
+        return number_token(number_of(10, word));
     }
-    let digits = behind_prefix(word);
-    if are_hex_digits(digits) {
-        return number_token(number(digits, 16));
+    let digits = after_prefix(word);
+    if are_hexadecimal(digits) {
+        return number_token(number_of(16, digits));
     }
     Ok(Token::Name(Items::from_slice(alloc, word)?))
 }
@@ -103,14 +136,14 @@ fn one_mark(a: u8) -> Option<Token>
     }
 }
 
-/// The longest mark at the front.
+/// The longest mark that the bytes begin with.
 fn mark_at(a: u8, rest: &[u8]) -> Option<(Token, &[u8])>
     ensures gives { option_map (λ x. (x.0, x.1.now)) result ≡ mark_at a rest.now }
     ensures shorter { IfSome result (λ x. length x.1.now ≤ length rest.now) }
 {
-    if let [b, behind @ ..] = rest {
+    if let [b, others @ ..] = rest {
         if let Some(token) = two_mark(a, *b) {
-            return Some((token, behind));
+            return Some((token, others));
         }
     }
     match one_mark(a) {
@@ -119,13 +152,13 @@ fn mark_at(a: u8, rest: &[u8]) -> Option<(Token, &[u8])>
     }
 }
 
-/// The longest word at the front.
+/// The longest word that the bytes begin with.
 fn word_at(alloc: Global, bytes: &[u8]) -> Result<(Token, &[u8]), ConditionStop>
-    requires { 0 < run bytes.now }
-    ensures gives { Tells (λ x. (x.0, x.1.now)) result (word_at bytes.now) }
+    requires { 0 < prefix_len is_a_word_byte bytes.now }
+    ensures gives { IsFound (λ x. (x.0, x.1.now)) result (word_at bytes.now) }
     ensures shorter { IfOk result (λ x. length x.1.now < length bytes.now) }
 {
-    let count = run(bytes);
+    let count = word_length(bytes);
     let rest = &bytes[count..];
     match word_token(alloc, &bytes[..count]) {
         Ok(token) => Ok((token, rest)),
@@ -133,15 +166,15 @@ fn word_at(alloc: Global, bytes: &[u8]) -> Result<(Token, &[u8]), ConditionStop>
     }
 }
 
-/// The token at the front.
+/// The token that the bytes begin with.
 fn token_at(alloc: Global, bytes: &[u8]) -> Result<(Token, &[u8]), ConditionStop>
-    ensures gives { Tells (λ x. (x.0, x.1.now)) result (token_at bytes.now) }
+    ensures gives { IsFound (λ x. (x.0, x.1.now)) result (token_at bytes.now) }
     ensures shorter { IfOk result (λ x. length x.1.now < length bytes.now) }
 {
     match bytes {
         [] => Err(ConditionStop::Bad),
         [first, ..] if is_word_byte(*first) => word_at(alloc, bytes),
-        [first, behind @ ..] => match mark_at(*first, behind) {
+        [first, rest @ ..] => match mark_at(*first, rest) {
             Some(found) => Ok(found),
             None => Err(ConditionStop::Bad),
         },
@@ -162,9 +195,9 @@ pub fn tokens(alloc: Global, bytes: &[u8]) -> Result<Items<Token>, ConditionStop
     while !rest.is_empty() {
         match token_at(alloc, rest) {
             Err(stop) => return Err(stop),
-            Ok((token, behind)) => {
+            Ok((token, others)) => {
                 found.push(token)?;
-                rest = after_blanks(behind);
+                rest = after_blanks(others);
             }
         }
     }

@@ -1,6 +1,8 @@
 pub mod Choices
-pub mod Digits
 pub mod Entries
+pub mod LineByLine
 pub mod Lines
-pub mod Settings
+pub mod Marks
+pub mod Ranges
+pub mod Configuration
 pub mod Texts

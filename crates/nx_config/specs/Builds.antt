@@ -1,5 +1,5 @@
 -- The build that a configuration chooses.
-use Rattle.std.specs.Prelude.{ℕ, nat_le, if◌then◌else◌, List, [], ◌∷◌, ◌++◌, Option, None, Some, Result, Ok, Err}
+use Rattle.std.specs.Prelude.{ℕ, codes, nat_le, if◌then◌else◌, List, [], ◌∷◌, ◌++◌, Option, None, Some, Result, Ok, Err}
 use Rattle.nx_base.specs.declared.kinds.Build.{Build}
 use Rattle.nx_base.specs.declared.kinds.Build.TheVariants.{Flat, Protected, Kernel}
 use Rattle.nx_config.specs.declared.fault.ConfigKind.TheVariants.{TwoBuilds, NoBuild}
@@ -8,7 +8,6 @@ use Rattle.nx_config.specs.declared.fault.ConfigFault.TheVariants as fault
 use Rattle.nx_config.specs.declared.value.Value.{Value}
 use Rattle.nx_config.specs.declared.value.Value.TheVariants.{Yes, Number, Text}
 use Rattle.nx_config.specs.declared.value.Kept.{Kept}
-use Rattle.nx_config.specs.declared.builds.TheConstants.{FLAT, PROTECTED, KERNEL}
 
 -- a line, if its value is `y`
 abbrev pub yes_at : ℕ → Option Value → Option ℕ
@@ -49,4 +48,5 @@ only (c ∷ d ∷ cs) = Err (fault.Text d.0 TwoBuilds)
 
 -- the build that the last lines of the three names choose
 unfoldable pub build_by : (List ℕ → Option Kept) → Result Build ConfigFault
-build_by last = only (in_order (choices (yes_line (last FLAT.now)) (yes_line (last PROTECTED.now)) (yes_line (last KERNEL.now))))
+build_by last =
+    only (in_order (choices (yes_line (last (codes "CONFIG_BUILD_FLAT"))) (yes_line (last (codes "CONFIG_BUILD_PROTECTED"))) (yes_line (last (codes "CONFIG_BUILD_KERNEL")))))

@@ -5,6 +5,6 @@ pub mod Lines
 pub mod Numbers
 pub mod Quoted
 pub mod Reading
-pub mod Settings
+pub mod Configuration
 pub mod Tables
 pub mod FaultTexts

@@ -11,7 +11,7 @@ abbrev pub ended : List ℕ → Option (List ℕ)
 ended [] = Some []
 ended (b ∷ bs) = None
 
--- the text up to the closing quote, behind which nothing stands; a byte behind a backslash stands for itself
+-- the text up to the closing quote, after which nothing stands; a byte after a backslash stands for itself
 abbrev pub quoted : Bool → List ℕ → Option (List ℕ)
 quoted escaped [] = None
 quoted true (b ∷ bs) = before (b ∷ []) (quoted false bs)

@@ -1,7 +1,8 @@
 ghost use Rattle.std.specs.Prelude.{◌≡◌, ◌≢◌, ◌≤◌, ◌⊎◌, length, None, Some, Err, IsOk};
 ghost use Rattle.std.specs.Option.{option_copied};
 ghost use Rattle.nx_config.specs.Builds.{build_by};
-ghost use Rattle.nx_config.specs.Settings.{Configures, first_fault, value_kept};
+ghost use Rattle.nx_config.specs.Configuration.{Configures, first_fault, value_kept};
+ghost use Rattle.nx_config.specs.Limits.{AreInRange};
 ghost use Rattle.nx_config.specs.Tables.{value_in};
 
 use crate::builds::build_in;
@@ -22,11 +23,15 @@ pub struct Config {
 }
 
 impl Model for Config {
-    ghost use Rattle.nx_config.specs.Settings.{Settings};
+    ghost use Rattle.nx_config.specs.Configuration.{Configuration};
 
-    ghost Value = { Settings };
+    ghost Value = { Configuration };
 
     ghost view = { λ c. record { values = c.table; limits = c.limits } };
+
+    ghost use Rattle.nx_config.specs.Limits.{AreInRange};
+
+    ghost invariant = { λ c. AreInRange c.limits };
 }
 
 impl Config {
@@ -58,7 +63,8 @@ impl Config {
 
     /// The limits, each by its name's value or by default.
     pub fn limits(&self) -> Limits
-        ensures { result ≡ self.now.limits }
+        ensures value { result ≡ self.now.limits }
+        ensures in_range { AreInRange result }
     {
         self.limits
     }

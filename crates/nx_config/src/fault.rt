@@ -37,12 +37,12 @@ pub enum ConfigFault {
     /// The text is refused at a line, counted from 1. Line 0 stands for the whole text.
     #[error("{line}: {kind}")]
     Text { line: u32, kind: ConfigKind },
-    /// There was no memory.
-    #[error("no memory")]
+    /// There is no memory for it.
+    #[error("out of memory")]
     Memory,
 }
 
-// Why a part of a line was not read.
+/// Why a part of a line was not read.
 #[derive(Clone, Copy, Debug, Drop)]
 pub enum Stop {
     Memory,

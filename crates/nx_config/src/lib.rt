@@ -16,7 +16,6 @@ mod value;
 pub use config::{Config, read_config};
 pub use fault::{ConfigFault, ConfigKind};
 pub use limits::Limits;
-pub use line::{cut, trim_start, trimmed};
 pub use value::Value;
 
 #[cfg(test)]

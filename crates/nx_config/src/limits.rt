@@ -1,32 +1,23 @@
 ghost use Rattle.std.specs.Prelude.{◌≡◌, ◌<◌};
-ghost use Rattle.nx_config.specs.Limits.{number_within, limit_given, limit_by, earlier, number_in, limits_by};
+ghost use Rattle.nx_config.specs.Limits.{row_of, number_within, limit_at as limit_at_line, limit_by, earlier, number_in, limits_by};
 ghost use Rattle.nx_config.specs.Tables.{value_in};
 
 use crate::table::Table;
 use crate::value::{Kept, Value};
 
-/// What a limit is by default, and from which lowest to which highest multiple it may be.
+/// A limit: the name that sets it, its number by default, and from which lowest to which highest
+/// multiple it may be.
 pub struct Limit {
+    pub name: &'static str,
     pub default: u32,
     pub lowest: u32,
     pub highest: u32,
     pub multiple: u32,
 }
 
-pub const RAM_NAME: &str = "CONFIG_NXSIM_RAM";
-
-pub const THREADS_NAME: &str = "CONFIG_NXSIM_THREADS";
-
-pub const BLOCKS_NAME: &str = "CONFIG_NXSIM_BLOCKS";
-
-pub const NODES_NAME: &str = "CONFIG_NXSIM_NODES";
-
-pub const CONSOLE_NAME: &str = "CONFIG_NXSIM_CONSOLE";
-
-pub const STACK_NAME: &str = "CONFIG_NXSIM_STACK";
-
 /// Bytes of RAM.
 pub const RAM: Limit = Limit {
+    name: "CONFIG_NXSIM_RAM",
     default: 4194304,
     lowest: 1048576,
     highest: 16777216,
@@ -35,6 +26,7 @@ pub const RAM: Limit = Limit {
 
 /// Live threads.
 pub const THREADS: Limit = Limit {
+    name: "CONFIG_NXSIM_THREADS",
     default: 16,
     lowest: 2,
     highest: 64,
@@ -43,6 +35,7 @@ pub const THREADS: Limit = Limit {
 
 /// Pool blocks of 64 bytes.
 pub const BLOCKS: Limit = Limit {
+    name: "CONFIG_NXSIM_BLOCKS",
     default: 4096,
     lowest: 16,
     highest: 65536,
@@ -51,6 +44,7 @@ pub const BLOCKS: Limit = Limit {
 
 /// Objects of the kernel.
 pub const NODES: Limit = Limit {
+    name: "CONFIG_NXSIM_NODES",
     default: 128,
     lowest: 16,
     highest: 1024,
@@ -59,6 +53,7 @@ pub const NODES: Limit = Limit {
 
 /// Bytes that the console keeps.
 pub const CONSOLE: Limit = Limit {
+    name: "CONFIG_NXSIM_CONSOLE",
     default: 1048576,
     lowest: 1024,
     highest: 16777216,
@@ -67,6 +62,7 @@ pub const CONSOLE: Limit = Limit {
 
 /// Bytes of a thread's stack.
 pub const STACK: Limit = Limit {
+    name: "CONFIG_NXSIM_STACK",
     default: 8192,
     lowest: 4096,
     highest: 1048576,
@@ -93,7 +89,7 @@ pub struct Limits {
 // The number, if the limit may be it.
 fn within(limit: &Limit, number: i128) -> Option<u32>
     requires { 0 < limit.now.multiple }
-    ensures { result ≡ number_within limit.now number }
+    ensures { result ≡ number_within (row_of limit.now) number }
 {
     if number < limit.lowest as i128 || number > limit.highest as i128 {
         return None;
@@ -106,9 +102,9 @@ fn within(limit: &Limit, number: i128) -> Option<u32>
 }
 
 // The limit that a name's last line gives, or that line.
-fn given(limit: &Limit, kept: &Kept) -> Result<u32, u32>
+fn limit_at(limit: &Limit, kept: &Kept) -> Result<u32, u32>
     requires { 0 < limit.now.multiple }
-    ensures { result ≡ limit_given limit.now kept.now.line kept.now.value }
+    ensures { result ≡ limit_at_line (row_of limit.now) kept.now.line kept.now.value }
 {
     match &kept.value {
         None => Ok(limit.default),
@@ -118,13 +114,13 @@ fn given(limit: &Limit, kept: &Kept) -> Result<u32, u32>
     }
 }
 
-fn limit_in(table: &Table, name: &str, limit: &Limit) -> Result<u32, u32>
+fn limit_in(table: &Table, limit: &Limit) -> Result<u32, u32>
     requires { 0 < limit.now.multiple }
-    ensures { result ≡ limit_by limit.now name.now (value_in table.now) }
+    ensures { result ≡ limit_by (row_of limit.now) (value_in table.now) }
 {
-    match table.find(name.as_bytes()) {
+    match table.find(limit.name.as_bytes()) {
         None => Ok(limit.default),
-        Some(kept) => given(limit, kept),
+        Some(kept) => limit_at(limit, kept),
     }
 }
 
@@ -152,12 +148,12 @@ fn number(limit: Result<u32, u32>) -> u32
 pub fn limits_in(table: &Table) -> Result<Limits, u32>
     ensures { result ≡ limits_by (value_in table.now) }
 {
-    let ram = limit_in(table, RAM_NAME, &RAM);
-    let threads = limit_in(table, THREADS_NAME, &THREADS);
-    let blocks = limit_in(table, BLOCKS_NAME, &BLOCKS);
-    let nodes = limit_in(table, NODES_NAME, &NODES);
-    let console = limit_in(table, CONSOLE_NAME, &CONSOLE);
-    let stack = limit_in(table, STACK_NAME, &STACK);
+    let ram = limit_in(table, &RAM);
+    let threads = limit_in(table, &THREADS);
+    let blocks = limit_in(table, &BLOCKS);
+    let nodes = limit_in(table, &NODES);
+    let console = limit_in(table, &CONSOLE);
+    let stack = limit_in(table, &STACK);
     let line = earlier_line(stack, None);
     let line = earlier_line(console, line);
     let line = earlier_line(nodes, line);

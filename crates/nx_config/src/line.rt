@@ -1,88 +1,56 @@
-ghost use Rattle.std.specs.Prelude.{◌≡◌, ◌==◌, ◌<◌, length, IfOk, IfErr, Ok, false, reverse};
-ghost use Rattle.std.specs.List.{list_all, list_any};
-ghost use Rattle.nx_config.specs.Line.{is_blank as is_blank_byte, drop_blanks, trim, before_mark, behind_mark, is_name_byte as is_in_names, is_name as is_a_name, value_of, text_or, number_or, assigned, unset, trimmed_says, says, Reads};
+ghost use Rattle.std.specs.Prelude.{◌≡◌, ◌==◌, ◌<◌, ◌≤◌, length, IfOk, IfErr, Ok, false};
+ghost use Rattle.std.specs.List.{list_any, position_or_len};
+ghost use Rattle.nx_config.specs.Line.{before_mark, after_mark, is_name as is_a_name, value_of, text_or, number_or, assigned, unset, trimmed_says, says, IsReadAs};
 ghost use Rattle.nx_config.specs.Numbers.{integer_of};
 ghost use Rattle.nx_config.specs.Quoted.{quoted};
 
 use crate::fault::{ConfigKind, Stop};
 use crate::number::integer;
 use crate::quoted::quoted_text;
-use crate::value::{Given, Value};
-use nx_base::Bytes;
+use crate::value::{Assignment, Value};
+use nx_base::{Bytes, are_word_bytes, trimmed};
 use std::alloc::Global;
 
-fn is_blank(byte: u8) -> bool
-    ensures { result ≡ is_blank_byte byte }
+fn is_mark(byte: u8, mark: u8) -> bool
+    ensures { result ≡ (byte == mark) }
 {
-    byte == b' ' || byte == b'\t' || byte == b'\r'
+    byte == mark
 }
 
-/// The bytes without the blanks that they begin with.
-pub fn trim_start(line: &[u8]) -> &[u8]
-    ensures { result.now ≡ drop_blanks line.now }
+/// The place of the first mark, or the length where there is none.
+fn place_of(bytes: &[u8], mark: u8) -> usize
+    ensures place { result ≡ position_or_len (λ b. b == mark) bytes.now }
+    ensures within { result ≤ length bytes.now }
 {
-    let mut rest = line;
-    while let [first, behind @ ..] = rest {
-        if !is_blank(*first) {
-            return rest;
+    let mut place = 0;
+    let mut rest = bytes;
+    while let [first, others @ ..] = rest {
+        if is_mark(*first, mark) {
+            return place;
         }
-        rest = behind;
+        place += 1;
+        rest = others;
     }
-    rest
+    place
 }
 
-fn trim_end(line: &[u8]) -> &[u8]
-    ensures { result.now ≡ reverse (drop_blanks (reverse line.now)) }
-{
-    let mut rest = line;
-    while let [front @ .., last] = rest {
-        if !is_blank(*last) {
-            return rest;
-        }
-        rest = front;
-    }
-    rest
-}
-
-/// The bytes without the blanks at both ends: spaces, tabs and carriage returns.
-pub fn trimmed(line: &[u8]) -> &[u8]
-    ensures { result.now ≡ trim line.now }
-{
-    trim_end(trim_start(line))
-}
-
-/// What stands before the first mark and behind it.
+/// What stands before the first mark, and what stands after it.
 pub fn cut(bytes: &[u8], mark: u8) -> (&[u8], &[u8])
     ensures before { result.0.now ≡ before_mark mark bytes.now }
-    ensures behind { result.1.now ≡ behind_mark mark bytes.now }
+    ensures after { result.1.now ≡ after_mark mark bytes.now }
     ensures shorter { 0 < length bytes.now → length result.1.now < length bytes.now }
 {
-    let mut at = 0;
-    while at < bytes.len() {
-        if bytes[at] == mark {
-            return (&bytes[..at], &bytes[at + 1..]);
-        }
-        at += 1;
+    let place = place_of(bytes, mark);
+    if place < bytes.len() {
+        return (&bytes[..place], &bytes[place + 1..]);
     }
-    (bytes, &bytes[at..])
-}
-
-fn is_name_byte(byte: u8) -> bool
-    ensures { result ≡ is_in_names byte }
-{
-    byte.is_ascii_alphanumeric() || byte == b'_'
-}
-
-fn are_name_bytes(bytes: &[u8]) -> bool
-    ensures { result ≡ list_all is_in_names bytes.now }
-{
-    bytes.iter().all(|byte| is_name_byte(*byte))
+    (bytes, &[])
 }
 
 fn is_name(bytes: &[u8]) -> bool
     ensures { result ≡ is_a_name bytes.now }
 {
-    !bytes.is_empty() && are_name_bytes(bytes)
+    !bytes.is_empty() && are_word_bytes(bytes)
 }
 
 fn has_equals(bytes: &[u8]) -> bool
@@ -93,7 +61,7 @@ fn has_equals(bytes: &[u8]) -> bool
 
 #[tactic(auto, unfolding(crate::specs::Line::value_of))]
 fn value(alloc: Global, text: &[u8]) -> Result<Option<Value>, Stop>
-    ensures { Reads result (value_of text.now) }
+    ensures { IsReadAs result (value_of text.now) }
 {
     match text {
         [] => Ok(Some(Value::Text(Bytes::new(alloc)))),
@@ -105,7 +73,7 @@ fn value(alloc: Global, text: &[u8]) -> Result<Option<Value>, Stop>
 }
 
 fn text_value(alloc: Global, rest: &[u8]) -> Result<Option<Value>, Stop>
-    ensures { Reads result (text_or (quoted false rest.now)) }
+    ensures { IsReadAs result (text_or (quoted false rest.now)) }
 {
     match quoted_text(alloc, rest) {
         Ok(Some(text)) => Ok(Some(Value::Text(text))),
@@ -115,7 +83,7 @@ fn text_value(alloc: Global, rest: &[u8]) -> Result<Option<Value>, Stop>
 }
 
 fn number_value(text: &[u8]) -> Result<Option<Value>, Stop>
-    ensures { Reads result (number_or (integer_of text.now)) }
+    ensures { IsReadAs result (number_or (integer_of text.now)) }
 {
     match integer(text) {
         Ok(number) => Ok(Some(Value::Number(number))),
@@ -131,8 +99,8 @@ fn name_of(alloc: Global, name: &[u8]) -> Result<Bytes, Stop>
 }
 
 #[tactic(auto, unfolding(crate::specs::Line::assigned))]
-fn assignment(alloc: Global, line: &[u8]) -> Result<Option<Given>, Stop>
-    ensures { Reads result (assigned line.now) }
+fn assignment(alloc: Global, line: &[u8]) -> Result<Option<Assignment>, Stop>
+    ensures { IsReadAs result (assigned line.now) }
 {
     let (name, text) = cut(line, b'=');
     if !has_equals(line) || !is_name(name) {
@@ -140,27 +108,27 @@ fn assignment(alloc: Global, line: &[u8]) -> Result<Option<Given>, Stop>
     }
     let value = value(alloc, text)?;
     let name = name_of(alloc, name)?;
-    Ok(Some(Given { name, value }))
+    Ok(Some(Assignment { name, value }))
 }
 
 #[tactic(auto, unfolding(crate::specs::Line::unset))]
-fn comment(alloc: Global, rest: &[u8]) -> Result<Option<Given>, Stop>
-    ensures { Reads result (Ok (unset rest.now)) }
+fn comment(alloc: Global, rest: &[u8]) -> Result<Option<Assignment>, Stop>
+    ensures { IsReadAs result (Ok (unset rest.now)) }
 {
     let [b' ', text @ ..] = rest else {
         return Ok(None);
     };
-    let (name, behind) = cut(text, b' ');
-    if !is_name(name) || behind != b"is not set".as_slice() {
+    let (name, rest) = cut(text, b' ');
+    if !is_name(name) || rest != b"is not set".as_slice() {
         return Ok(None);
     }
     let name = name_of(alloc, name)?;
-    Ok(Some(Given { name, value: None }))
+    Ok(Some(Assignment { name, value: None }))
 }
 
 #[tactic(auto, unfolding(crate::specs::Line::trimmed_says))]
-fn trimmed_line(alloc: Global, line: &[u8]) -> Result<Option<Given>, Stop>
-    ensures { Reads result (trimmed_says line.now) }
+fn trimmed_line(alloc: Global, line: &[u8]) -> Result<Option<Assignment>, Stop>
+    ensures { IsReadAs result (trimmed_says line.now) }
 {
     match line {
         [] => Ok(None),
@@ -170,8 +138,8 @@ fn trimmed_line(alloc: Global, line: &[u8]) -> Result<Option<Given>, Stop>
 }
 
 /// What a line says.
-pub fn read_line(alloc: Global, line: &[u8]) -> Result<Option<Given>, Stop>
-    ensures { Reads result (says line.now) }
+pub fn read_line(alloc: Global, line: &[u8]) -> Result<Option<Assignment>, Stop>
+    ensures { IsReadAs result (says line.now) }
 {
     trimmed_line(alloc, trimmed(line))
 }

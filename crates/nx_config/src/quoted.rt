@@ -10,7 +10,7 @@ fn closes(escaped: bool, byte: u8) -> bool
     !escaped && byte == b'"'
 }
 
-// Takes a byte that doesn't close the text. This answers whether the next byte stands for itself.
+// AreLinesTaken a byte that doesn't close the text. This answers whether the next byte stands for itself.
 #[tactic(auto, using(crate::proofs::Texts::before_push))]
 fn take_byte(text: &mut Bytes, escaped: bool, byte: u8) -> Result<bool, AllocError>
     requires { (not escaped && (byte == 34)) ≡ false }
@@ -27,19 +27,19 @@ fn take_byte(text: &mut Bytes, escaped: bool, byte: u8) -> Result<bool, AllocErr
     Ok(false)
 }
 
-/// The text that stands behind an opening quote, if it is closed at the end.
+/// The text that stands after an opening quote, if it is closed at the end.
 pub fn quoted_text(alloc: Global, bytes: &[u8]) -> Result<Option<Bytes>, AllocError>
     ensures { IfOk result (λ r. r ≡ quoted false bytes.now) }
 {
     let mut text = Bytes::new(alloc);
     let mut escaped = false;
     let mut rest = bytes;
-    while let [byte, behind @ ..] = rest {
+    while let [byte, others @ ..] = rest {
         if closes(escaped, *byte) {
-            return Ok(if behind.is_empty() { Some(text) } else { None });
+            return Ok(if others.is_empty() { Some(text) } else { None });
         }
         escaped = take_byte(&mut text, escaped, *byte)?;
-        rest = behind;
+        rest = others;
     }
     Ok(None)
 }

@@ -5,7 +5,7 @@ ghost use Rattle.std.specs.Option.{option_copied};
 ghost use Rattle.std.specs.Str.{bytes_eq};
 ghost use Rattle.indexmap.specs.IndexMap.{insert_entry};
 
-use crate::value::{Given, Kept};
+use crate::value::{Assignment, Kept};
 use indexmap::IndexMap;
 use nx_base::Bytes;
 use std::alloc::{AllocError, Global};

@@ -7,13 +7,13 @@ pub enum Value {
     Yes,
     /// A number of magnitude below 2^64.
     Number(i128),
-    /// What stands in double quotes, or the empty text behind a bare `=`.
+    /// What stands in double quotes, or the empty text after a bare `=`.
     Text(Bytes),
 }
 
 /// What a line says of a name: its value or none.
 #[derive(Debug, Drop)]
-pub struct Given {
+pub struct Assignment {
     pub name: Bytes,
     /// None where the line says that the name has no value.
     pub value: Option<Value>,

@@ -39,20 +39,20 @@ decreases-or_chain l = 16 * l.depth + 7
 abbrev pub decreases-disjunction : goal.decreases-disjunction
 decreases-disjunction l = 16 * l.depth + 8
 
-abbrev pub invariant-and_chain-loop-behind : goal.invariant-and_chain-loop-behind
-invariant-and_chain-loop-behind l = record {
+abbrev pub invariant-and_chain-loop-others : goal.invariant-and_chain-loop-others
+invariant-and_chain-loop-others l = record {
   same : loop (and_pick (comparison (unary_at l.depth))) l.left l.rest ≡ loop (and_pick (comparison (unary_at l.depth))) l.fn.left l.tokens;
   fewer : length l.rest ≤ length l.tokens;
 }
 
-abbrev pub decreases-and_chain-loop-behind : goal.decreases-and_chain-loop-behind
-decreases-and_chain-loop-behind l = length l.rest
+abbrev pub decreases-and_chain-loop-others : goal.decreases-and_chain-loop-others
+decreases-and_chain-loop-others l = length l.rest
 
-abbrev pub invariant-or_chain-loop-behind : goal.invariant-or_chain-loop-behind
-invariant-or_chain-loop-behind l = record {
+abbrev pub invariant-or_chain-loop-others : goal.invariant-or_chain-loop-others
+invariant-or_chain-loop-others l = record {
   same : loop (or_pick (conjunction (comparison (unary_at l.depth)))) l.left l.rest ≡ loop (or_pick (conjunction (comparison (unary_at l.depth)))) l.fn.left l.tokens;
   fewer : length l.rest ≤ length l.tokens;
 }
 
-abbrev pub decreases-or_chain-loop-behind : goal.decreases-or_chain-loop-behind
-decreases-or_chain-loop-behind l = length l.rest
+abbrev pub decreases-or_chain-loop-others : goal.decreases-or_chain-loop-others
+decreases-or_chain-loop-others l = length l.rest

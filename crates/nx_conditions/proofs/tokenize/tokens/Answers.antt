@@ -5,7 +5,7 @@ use Rattle.nx_conditions.proofs.tokenize.tokens.Goals as goal
 
 pub loop-rest-preserved : goal.loop-rest-preserved
 loop-rest-preserved c = record {
-  reached = reached_next c.args.bytes.now c.loop-rest.found c.push.new.self c.loop-rest.rest.now c.in-Ok.behind.now c.after_blanks-rest-in-Ok.result.now c.in-Ok.token
+  reached = reached_next c.args.bytes.now c.loop-rest.found c.push.new.self c.loop-rest.rest.now c.in-Ok.others.now c.after_blanks-rest-in-Ok.result.now c.in-Ok.token
       c.in-Ok.ensures.gives c.in_ok-push-in-Ok.ensures.ok c.after_blanks-rest-in-Ok.ensures.rest c.loop-rest.invariant.reached;
   few = omega (arith, ap length c.in_ok-push-in-Ok.ensures.ok, length-append c.loop-rest.found (c.in-Ok.token ∷ []), c.in-Ok.ensures.shorter, c.after_blanks-rest-in-Ok.ensures.shorter, c.loop-rest.invariant.few);
 }

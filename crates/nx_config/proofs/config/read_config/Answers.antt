@@ -1,4 +1,4 @@
-use Rattle.nx_config.proofs.Settings.{accepted_by, refused_by}
+use Rattle.nx_config.proofs.Configuration.{accepted_by, refused_by}
 use Rattle.nx_config.proofs.config.read_config.Goals as goal
 
 pub returns-clause-accepted : goal.returns-clause-accepted

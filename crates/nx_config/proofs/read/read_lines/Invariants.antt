@@ -2,7 +2,8 @@ use Rattle.std.proofs.Common.{◌≡◌, ◌+◌, ◌≤◌, ℕ, List, length}
 use Rattle.std.specs.Map.{lookup, keys_of}
 use Rattle.std.specs.Option.{option_or}
 use Rattle.std.specs.Str.{bytes_eq}
-use Rattle.nx_config.specs.Lines.{lines_of, entries_from, entries_of, last_of, fault_from, line_fault}
+use Rattle.nx_config.specs.Lines.{lines_of, entries_of, last_of, line_fault}
+use Rattle.nx_config.proofs.LineByLine.{entries_from, fault_from}
 use Rattle.nx_config.proofs.read.read_lines.Given as goal
 
 abbrev pub invariant-loop-rest : goal.invariant-loop-rest

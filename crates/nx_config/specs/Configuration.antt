@@ -12,7 +12,7 @@ use Rattle.nx_config.specs.Lines.{entries_of, last_of, line_fault}
 use Rattle.nx_config.specs.Tables.{value_in}
 
 -- what a configuration holds: for each name its last line, and the limits
-pub record Settings : Type 0 where
+pub record Configuration : Type 0 where
   pub values : List (List ℕ × Kept)
   pub limits : Limits
 
@@ -35,17 +35,17 @@ abbrev pub first_fault : List ℕ → Option ConfigFault
 first_fault text = option_or (line_fault text) (out_of_range (limits_by (last_in text)))
 
 -- a configuration is that of a text: the text has no fault, each name has what its last line says, and the limits are those of the text
-pub record IsOfText (c : Settings) (text : List ℕ) : Type 0 where
+pub record IsOfText (c : Configuration) (text : List ℕ) : Type 0 where
   pub good : first_fault text ≡ None
   pub values : (name : List ℕ) → value_in c.values name ≡ last_in text name
   pub limits : limits_by (last_in text) ≡ Ok c.limits
 
--- the text is refused by its first fault; want of memory is free
+-- the text is refused by its first fault; out of memory is free
 abbrev pub IsFirstFault : ConfigFault → List ℕ → Type 0
 IsFirstFault fault.Memory text = Unit {0}
 IsFirstFault (fault.Text line kind) text = first_fault text ≡ Some (fault.Text line kind)
 
 -- the configuration of a text, or its first fault
-abbrev pub Configures : Result Settings ConfigFault → List ℕ → Type 0
+abbrev pub Configures : Result Configuration ConfigFault → List ℕ → Type 0
 Configures (Ok c) text = IsOfText c text
 Configures (Err f) text = IsFirstFault f text

@@ -1,6 +1,6 @@
 use Rattle.std.proofs.Common.{◌≡◌, ◌≤◌, length}
-use Rattle.nx_conditions.specs.Bytes.{after_blanks}
-use Rattle.nx_conditions.proofs.bytes.after_blanks.Given as goal
+use Rattle.nx_conditions.specs.Tokens.{after_blanks}
+use Rattle.nx_conditions.proofs.tokenize.after_blanks.Given as goal
 
 abbrev pub invariant-loop-rest : goal.invariant-loop-rest
 invariant-loop-rest l = record { same : after_blanks l.rest ≡ after_blanks l.bytes; fewer : length l.rest ≤ length l.bytes }
