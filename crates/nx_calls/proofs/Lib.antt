@@ -1,6 +1,6 @@
 pub mod Judging
 pub mod KindLists
-pub mod Numbered
+pub mod TrueRows
 pub mod OneTable
 pub mod RecordCounts
 pub mod Pieces

@@ -1,5 +1,5 @@
 -- The call table of a text.
-use Rattle.std.specs.Prelude.{◌≡◌, ℕ, ◌+◌, ◌≤◌, List, [], ◌∷◌, ◌++◌, length, map, Option, None, Some, Result, Ok, Err}
+use Rattle.std.specs.Prelude.{◌≡◌, ◌≢◌, ℕ, ◌+◌, ◌<◌, ◌≤◌, All, AllPairs, slice_index_or, List, [], ◌∷◌, ◌++◌, length, map, Option, None, Some, Result, Ok, Err}
 use Rattle.csv.specs.Reading.{AreRecords, default_config, strip_bom}
 use Rattle.csv.specs.declared.parser.State.TheVariants as st
 use Rattle.nx_conditions.specs.declared.meaning.Meaning.{Meaning}
@@ -8,16 +8,14 @@ use Rattle.nx_calls.specs.declared.fault.CallsKind.{CallsKind}
 use Rattle.nx_calls.specs.declared.fault.CallsFault.{CallsFault}
 use Rattle.nx_calls.specs.declared.fault.CallsFault.TheVariants as fault
 use Rattle.nx_calls.specs.declared.row.CallRow.{CallRow}
-use Rattle.nx_calls.specs.Rows.{Says}
+use Rattle.nx_calls.specs.Rows.{IsRow, Says}
 
--- rows are numbered one by one from a number on
-abbrev pub AreNumbered : ℕ → List CallRow → Type 0
-AreNumbered n [] = Unit {0}
-AreNumbered n (row ∷ rows) = (row.number ≡ n) × AreNumbered (n + 1) rows
-
--- at most 512 rows, numbered from 16 on
-abbrev pub IsInPlace : List CallRow → Type 0
-IsInPlace rows = (length rows ≤ 512) × AreNumbered 16 rows
+-- what holds of the rows of a table: there are at most 512, each has the number 16 plus its place, each fits its call, and no two have one name
+pub record AreRows (rows : List CallRow) : Type 0 where
+  pub few : length rows ≤ 512
+  pub numbers : (k : ℕ) (d : CallRow) → k < length rows → (slice_index_or rows k d).number ≡ 16 + k
+  pub fit : All IsRow rows
+  pub names : AllPairs (λ a b. a.name ≢ b.name) rows
 
 -- what records give, of which the first has this number, behind these rows: all rows, or the first fault
 pub data Reads (means : List ℕ → Option Meaning) : ℕ → List CallRow → List (List (List ℕ)) → Result (List CallRow) CallsFault → Type 0 where

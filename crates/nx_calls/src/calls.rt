@@ -1,7 +1,7 @@
 ghost use Rattle.std.specs.Prelude.{◌≡◌, ◌+◌, ◌<◌, ◌≤◌, ◌^◌, [], length, map, IfOk};
 ghost use Rattle.csv.specs.Records.{fields_of};
 ghost use Rattle.nx_calls.specs.Answers.{LeadsOn, fault_of};
-ghost use Rattle.nx_calls.specs.Table.{IsInPlace, IsRead, IsReadOf};
+ghost use Rattle.nx_calls.specs.Table.{AreRows, IsRead, IsReadOf};
 
 use crate::fault::{CallsFault, RowStop};
 use crate::judge::judge;
@@ -21,26 +21,26 @@ pub struct Calls {
 impl Model for Calls {
     ghost use Rattle.std.specs.Prelude.{List};
     ghost use Rattle.nx_calls.specs.declared.row.CallRow.{CallRow};
-    ghost use Rattle.nx_calls.specs.Table.{IsInPlace};
-
     ghost Value = { List CallRow };
 
     ghost view = { λ c. c.rows.items };
 
-    ghost invariant = { λ c. IsInPlace c.rows.items };
+    ghost use Rattle.nx_calls.specs.Table.{AreRows};
+
+    ghost invariant = { λ c. AreRows c.rows.items };
 }
 
 impl Calls {
     /// The rows, numbered one by one from 16 on.
     pub fn rows(&self) -> &[CallRow]
         ensures value { result.now ≡ self.now }
-        ensures in_place { IsInPlace result.now }
+        ensures hold { AreRows result.now }
     {
         self.rows.as_slice()
     }
 }
 
-/// Takes one record behind these rows.
+/// Takes one record after these rows.
 fn take_record<M: Meanings>(
     alloc: Global,
     rows: &mut Vec<CallRow>,

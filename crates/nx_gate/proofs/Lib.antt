@@ -1,2 +1,2 @@
 pub mod Moves
-pub mod Small
+pub mod FromRows

@@ -1,12 +1,14 @@
 -- The gates of a call table, and how they are listed.
-use Rattle.std.specs.Prelude.{ℕ, ◌<◌, ◌≤◌, All, ◌==◌, List, [], ◌∷◌, ◌++◌, length, map, codes, Option}
+use Rattle.std.specs.Prelude.{◌≡◌, ◌≢◌, ℕ, ◌+◌, ◌<◌, ◌≤◌, All, AllPairs, slice_index_or, ◌==◌, List, [], ◌∷◌, ◌++◌, length, map, codes, Option}
 use Rattle.std.specs.List.{find, flat_map}
 use Rattle.std.specs.Fmt.{decimal}
 use Rattle.std.specs.Int.{w32, to_be_bytes}
 use Rattle.hex.specs.Hex.{encode_lower}
 use Rattle.nx_base.specs.declared.calls.Kind.{Kind}
 use Rattle.nx_base.specs.declared.calls.Kind.TheVariants.{Word, In, Text, Out, Len, Out4, Out8}
+use Rattle.nx_base.specs.KernelCalls.{call_named}
 use Rattle.nx_calls.specs.declared.row.CallRow.{CallRow}
+use Rattle.nx_calls.specs.Rows.{HasKinds}
 use Rattle.nx_rv.specs.Table.{encode_of}
 use Rattle.nx_gate.specs.declared.gate.Gate.{Gate}
 use Rattle.nx_gate.specs.Proxies.{proxy_of}
@@ -22,6 +24,18 @@ gate_numbered number gates = find (λ g. g.number == number) gates
 -- the numbers of gates are from 16 to 527
 abbrev pub AreSmall : List Gate → Type 0
 AreSmall gates = All (λ gate. (16 ≤ gate.number) × (gate.number < 528)) gates
+
+-- what holds of every gate: its call is the kernel's of its name, and its kinds fit that call, or are all words where the kernel has none
+pub record IsGate (gate : Gate) : Type 0 where
+  pub kernel : gate.kernel ≡ call_named gate.name
+  pub kinds : HasKinds gate.kernel gate.kinds.items
+
+-- what holds of the gates of a table: there are at most 512, each has the number 16 plus its place, each fits its call, and no two have one name
+pub record AreGates (gates : List Gate) : Type 0 where
+  pub few : length gates ≤ 512
+  pub numbers : (k : ℕ) (d : Gate) → k < length gates → (slice_index_or gates k d).number ≡ 16 + k
+  pub fit : All IsGate gates
+  pub names : AllPairs (λ a b. a.name ≢ b.name) gates
 
 -- the words of a gate's proxy
 abbrev pub words_of : Gate → List ℕ
@@ -41,7 +55,7 @@ kind_name Out8 = codes "out8"
 abbrev pub word_text : ℕ → List ℕ
 word_text word = encode_lower (to_be_bytes w32 word)
 
--- texts, each behind a space
+-- texts, each after a space
 abbrev pub spaced : List (List ℕ) → List ℕ
 spaced [] = []
 spaced (text ∷ texts) = 32 ∷ text ++ spaced texts

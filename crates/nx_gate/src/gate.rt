@@ -1,9 +1,9 @@
 ghost use Rattle.std.specs.Prelude.{◌≡◌, IfOk, map};
 ghost use Rattle.std.specs.Option.{option_copied};
-ghost use Rattle.nx_gate.specs.Gates.{gate_of as gate_of_row, gate_numbered, AreSmall};
+ghost use Rattle.nx_gate.specs.Gates.{gate_of as gate_of_row, gate_numbered, AreSmall, AreGates};
 
 use arrayvec::ArrayVec;
-use nx_base::{Bytes, KCall, Kind};
+use nx_base::{Bytes, KCall, Kind, OutOfMemory};
 use nx_calls::{CallRow, Calls};
 use std::alloc::{AllocError, Global};
 use std::marker::Model;
@@ -11,9 +11,11 @@ use std::marker::Model;
 /// The gate of a call. It has the fields of the call's row.
 #[derive(Debug, Drop)]
 pub struct Gate {
+    /// The name of the call.
     pub name: Bytes,
     /// The number by which a program makes the call.
     pub number: u16,
+    /// The kinds of its parameters, in their order.
     pub kinds: ArrayVec<Kind, 6>,
     /// Whether its return type isn't `void`.
     pub returns: bool,
@@ -43,13 +45,14 @@ pub struct Gates {
 impl Model for Gates {
     ghost use Rattle.std.specs.Prelude.{List};
     ghost use Rattle.nx_gate.specs.declared.gate.Gate.{Gate};
-    ghost use Rattle.nx_gate.specs.Gates.{AreSmall};
 
     ghost Value = { List Gate };
 
     ghost view = { λ g. g.gates.items };
 
-    ghost invariant = { λ g. AreSmall g.gates.items };
+    ghost use Rattle.nx_gate.specs.Gates.{AreGates};
+
+    ghost invariant = { λ g. AreGates g.gates.items };
 }
 
 impl Gates {
@@ -64,19 +67,27 @@ impl Gates {
     pub fn as_slice(&self) -> &[Gate]
         ensures value { result.now ≡ self.now }
         ensures small { AreSmall result.now }
+        ensures hold { AreGates result.now }
     {
         self.gates.as_slice()
     }
 }
 
-/// The gates of a call table: one for each row.
-pub fn plan(alloc: Global, calls: &Calls) -> Result<Gates, AllocError>
-    ensures { IfOk result (λ gates. gates ≡ map gate_of_row calls.now) }
+fn gates_of(alloc: Global, rows: &[CallRow]) -> Result<Vec<Gate>, AllocError>
+    ensures { IfOk result (λ v. v.items ≡ map gate_of_row rows.now) }
 {
     let mut gates = Vec::new(alloc);
-    for row in calls.rows() {
+    for row in rows {
         let gate = gate_of(alloc, row)?;
         gates.push(gate)?;
     }
+    Ok(gates)
+}
+
+/// The gates of a call table: one for each row, in the order of the rows.
+pub fn plan(alloc: Global, calls: &Calls) -> Result<Gates, OutOfMemory>
+    ensures { IfOk result (λ gates. gates ≡ map gate_of_row calls.now) }
+{
+    let gates = gates_of(alloc, calls.rows())?;
     Ok(Gates { gates })
 }

@@ -3,7 +3,7 @@ ghost use Rattle.nx_gate.specs.Gates.{kind_name as kind_name_of, word_text, spac
 
 use crate::gate::{Gate, Gates};
 use crate::words::proxy;
-use nx_base::{Bytes, Kind};
+use nx_base::{Bytes, Kind, OutOfMemory};
 use std::alloc::{AllocError, Global};
 
 fn kind_name(kind: Kind) -> &'static [u8]
@@ -56,7 +56,7 @@ fn put_line(alloc: Global, text: &mut Bytes, gate: &Gate) -> Result<(), AllocErr
 
 /// The gates as text, a line each: the number, the name, the kinds of the parameters, and the words
 /// of the proxy in hexadecimal digits, each after one space.
-pub fn listing(alloc: Global, gates: &Gates) -> Result<Bytes, AllocError>
+pub fn listing(alloc: Global, gates: &Gates) -> Result<Bytes, OutOfMemory>
     ensures { IfOk result (λ text. text ≡ listing_of gates.now) }
 {
     let mut text = Bytes::new(alloc);

@@ -1,8 +1,8 @@
 use super::*;
-use nx_base::{Bytes, Kind};
+use nx_base::{Bytes, Kind, OutOfMemory};
 use nx_calls::read_calls;
 use nx_config::read_config;
-use std::alloc::{AllocError, Global};
+use std::alloc::Global;
 use std::test::Fail;
 
 const TABLE: &str = "\"write\",\"h\",\"\",\"int\",\"int\",\"const void *\",\"size_t\"
@@ -10,20 +10,20 @@ const TABLE: &str = "\"write\",\"h\",\"\",\"int\",\"int\",\"const void *\",\"siz
 \"getpid\",\"h\",\"\",\"int\"
 ";
 
-fn gates(alloc: Global, config: &str, table: &str) -> Result<Gates, AllocError> {
+fn gates(alloc: Global, config: &str, table: &str) -> Result<Gates, OutOfMemory> {
     if config.len() > 1048576 || table.len() > 1048576 {
-        return Err(AllocError);
+        return Err(OutOfMemory);
     }
     let Ok(config) = read_config(alloc, config.as_bytes()) else {
-        return Err(AllocError);
+        return Err(OutOfMemory);
     };
     let Ok(calls) = read_calls(alloc, table.as_bytes(), &config) else {
-        return Err(AllocError);
+        return Err(OutOfMemory);
     };
     plan(alloc, &calls)
 }
 
-fn listed(alloc: Global, config: &str, table: &str) -> Result<Bytes, AllocError> {
+fn listed(alloc: Global, config: &str, table: &str) -> Result<Bytes, OutOfMemory> {
     let gates = gates(alloc, config, table)?;
     listing(alloc, &gates)
 }

@@ -1,6 +1,5 @@
-use Rattle.nx_gate.proofs.Small.{small_made}
+use Rattle.nx_gate.proofs.FromRows.{gates_made}
 use Rattle.nx_gate.proofs.gate.plan.Goals as goal
 
 pub invariant_of-result : goal.invariant_of-result
-invariant_of-result c =
-    small_made c.loop-row.gates.items c.rows-row-items.result.now c.loop-row.row-index c.loop-row-test.false c.loop-row.invariant c.rows-row-items.ensures.in_place
+invariant_of-result c = gates_made c.in_ok-gates.gates.items _ c.in_ok-gates.ensures c.rows.ensures.hold
