@@ -82,7 +82,7 @@ impl Bytes {
         self.items.clear();
     }
 
-    /// Puts a byte behind the others. Where there is no memory for it, they stay as they are.
+    /// Appends a byte. When out of memory, the bytes stay as they were.
     pub fn push(&mut self, byte: u8) -> Result<(), AllocError>
         ensures ok { OnOk result (self.new ≡ self.old ++ byte ∷ []) }
         ensures err { OnErr result (self.new ≡ self.old) }
@@ -91,7 +91,7 @@ impl Bytes {
         Ok(())
     }
 
-    /// Puts bytes behind the others. Where there is no memory for them, they stay as they are.
+    /// Appends bytes. When out of memory, the bytes stay as they were.
     pub fn append(&mut self, bytes: &[u8]) -> Result<(), AllocError>
         ensures ok { OnOk result (self.new ≡ self.old ++ bytes.now) }
         ensures err { OnErr result (self.new ≡ self.old) }
@@ -99,7 +99,7 @@ impl Bytes {
         self.items.extend_from_slice(bytes)
     }
 
-    /// Puts a number in four bytes behind the others, the lowest first.
+    /// Appends a number in four bytes, the lowest first. When out of memory, the bytes stay as they were.
     #[tactic(auto, unfolding(crate::specs::ByteLists::to_le))]
     pub fn append_le32(&mut self, value: u32) -> Result<(), AllocError>
         ensures ok { OnOk result (self.new ≡ self.old ++ to_le 4 value) }
@@ -113,7 +113,7 @@ impl Bytes {
         ])
     }
 
-    /// Puts a number in two bytes behind the others, the lowest first.
+    /// Appends a number in two bytes, the lowest first. When out of memory, the bytes stay as they were.
     #[tactic(auto, unfolding(crate::specs::ByteLists::to_le))]
     pub fn append_le16(&mut self, value: u16) -> Result<(), AllocError>
         ensures ok { OnOk result (self.new ≡ self.old ++ to_le 2 value) }
@@ -122,7 +122,7 @@ impl Bytes {
         self.append(&[(value % 256) as u8, (value / 256 % 256) as u8])
     }
 
-    /// Puts zero bytes behind the others.
+    /// Appends `count` zero bytes. When out of memory, the bytes stay as they were.
     pub fn append_zeros(&mut self, alloc: Global, count: usize) -> Result<(), AllocError>
         ensures ok { OnOk result (self.new ≡ self.old ++ replicate count 0) }
         ensures err { OnErr result (self.new ≡ self.old) }

@@ -2,6 +2,12 @@ ghost use Rattle.std.specs.Prelude.{◌≡◌, Some};
 ghost use Rattle.nx_base.specs.KernelCalls.{all_calls, name_of, kinds_of, gives_value, call_named};
 ghost use Rattle.nx_base.specs.declared.calls.KCall.{KCall};
 
+/// The number of the first row of a call table. The next rows have the next numbers.
+pub const FIRST_CALL: u16 = 16;
+
+/// The most parameters that a call may have.
+pub const MOST_PARAMETERS: usize = 6;
+
 /// What a parameter of a call is.
 #[derive(Clone, Copy, Debug, Default, PartialEq, Eq)]
 pub enum Kind {
@@ -25,53 +31,99 @@ pub enum Kind {
 /// A call that the kernel implements, named by the words of its name.
 #[derive(Clone, Copy, Debug, PartialEq, Eq)]
 pub enum KCall {
+    /// Puts bytes into what a descriptor names.
     Write,
+    /// Takes bytes from what a descriptor names.
     Read,
+    /// Opens a file or a device.
     Open,
+    /// Closes a descriptor.
     Close,
+    /// Moves the offset in a file.
     Lseek,
+    /// Makes a second descriptor of one description.
     Dup,
+    /// The same, with a number of the caller's choice.
     Dup2,
+    /// Removes a file.
     Unlink,
+    /// Makes a directory.
     Mkdir,
+    /// Removes an empty directory.
     Rmdir,
+    /// Moves a file, or a directory with all in it.
     Rename,
+    /// Sets the directory of the task group.
     Chdir,
+    /// The directory of the task group.
     NxGetcwd,
+    /// A name in a directory, by its index.
     NxReaddir,
+    /// What a path names.
     NxKind,
+    /// Starts a program in a new task group.
     NxSpawn,
+    /// Ends the task group.
     Exit,
+    /// The number of the task group.
     Getpid,
+    /// Waits for a child to end, and gives its status.
     Waitpid,
+    /// How many arguments the program has.
     NxArgc,
+    /// An argument, by its index.
     NxArg,
+    /// Sets the priority of a thread.
     NxSetpriority,
+    /// Lets threads of the same priority go first.
     SchedYield,
+    /// A line on a live task group, by its index.
     NxPs,
+    /// Starts a thread in the task group.
     NxThread,
+    /// Ends the calling thread.
     NxThreadExit,
+    /// Waits for a thread to end, and gives its value.
     NxJoin,
+    /// Opens a message queue.
     NxMqOpen,
+    /// Closes the descriptor of a message queue.
     MqClose,
+    /// Removes the name of a message queue.
     MqUnlink,
+    /// Sends a message.
     MqSend,
+    /// Receives the oldest message of the highest priority.
     MqReceive,
+    /// The same, with a limit in ticks.
     NxMqTimedreceive,
+    /// Opens a semaphore.
     NxSemOpen,
+    /// Takes one from a semaphore, or waits.
     NxSemWait,
+    /// Takes one from a semaphore, or fails.
     NxSemTrywait,
+    /// Gives one to a semaphore.
     NxSemPost,
+    /// Closes the descriptor of a semaphore.
     NxSemClose,
+    /// Waits for some ticks.
     NxSleep,
+    /// The time in ticks.
     NxTicks,
+    /// The value of a variable of the environment.
     NxGetenv,
+    /// Sets a variable of the environment.
     Setenv,
+    /// Removes a variable of the environment.
     Unsetenv,
+    /// A variable with its value, by its index.
     NxEnv,
+    /// The error number of the thread's last failed call.
     GetErrno,
 }
 
+// In the order of their table.
 static CALLS: [KCall; 45] = [
     KCall::Write,
     KCall::Read,

@@ -4,22 +4,39 @@ ghost use Rattle.nx_base.specs.ErrorNumbers.{number_of};
 /// Why a call of the kernel failed, by the names of POSIX.
 #[derive(Clone, Copy, Debug, PartialEq, Eq)]
 pub enum Errno {
+    /// No such file or directory.
     Enoent,
+    /// Bad file descriptor.
     Ebadf,
+    /// No child processes.
     Echild,
+    /// Resource unavailable, try again.
     Eagain,
+    /// Not enough space.
     Enomem,
+    /// Bad address.
     Efault,
+    /// File exists.
     Eexist,
+    /// Not a directory.
     Enotdir,
+    /// Is a directory.
     Eisdir,
+    /// Invalid argument.
     Einval,
+    /// Too many open descriptors.
     Emfile,
+    /// File too large.
     Efbig,
+    /// No space left on the device.
     Enospc,
+    /// Function not supported.
     Enosys,
+    /// Directory not empty.
     Enotempty,
+    /// Message too large.
     Emsgsize,
+    /// The deadline passed.
     Etimedout,
 }
 

@@ -1,28 +1,31 @@
 //! Words, bytes and small types that every layer speaks of: texts and byte lists, a cursor that
-//! counts lines, the kinds of access and build, the registers.
+//! counts lines, the kinds of access and build, the causes of traps, the calls, the registers.
 #![tactic(auto)]
 
 mod bytes;
 mod calls;
+pub mod causes;
 mod count;
 mod cursor;
 mod errno;
 mod kinds;
 mod laws;
 mod out_of_memory;
+mod pages;
 mod regs;
 mod text;
 mod text_bytes;
 mod words;
 
 pub use bytes::Bytes;
-pub use calls::{KCall, Kind, each_call_has_its_name};
+pub use calls::{FIRST_CALL, KCall, Kind, MOST_PARAMETERS, each_call_has_its_name};
 pub use count::Count;
 pub use cursor::Cursor;
 pub use errno::Errno;
 pub use kinds::{Access, AluOp, Build, Cond, Mode};
 pub use laws::{a_call_has_at_most_two_outputs, a_store_changes_its_bytes_alone};
 pub use out_of_memory::OutOfMemory;
+pub use pages::PAGE_BYTES;
 pub use regs::Regs;
 pub use text::Text;
 pub use text_bytes::{

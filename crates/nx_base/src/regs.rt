@@ -5,7 +5,9 @@ ghost use Rattle.nx_base.specs.Registers.{reg, with_reg};
 /// in `x` holds. RISC-V Unprivileged ISA, RV32I 2.1 section 2.1.
 #[derive(Clone, Copy, Debug)]
 pub struct Regs {
+    /// What each register holds, except that register 0 is 0.
     pub x: [u32; 32],
+    /// The address of the next instruction.
     pub pc: u32,
 }
 

@@ -64,6 +64,7 @@ pub fn trim_start(bytes: &[u8]) -> &[u8]
     rest
 }
 
+// The bytes without the blanks and carriage returns that they end with.
 fn trim_end(bytes: &[u8]) -> &[u8]
     ensures { result.now ≡ reverse (without_leading is_a_line_blank (reverse bytes.now)) }
 {

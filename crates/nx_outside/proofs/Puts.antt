@@ -5,7 +5,7 @@ use Rattle.std.proofs.lemmas.List.{drop_more}
 use denote.Ref.{Bor}
 use Rattle.nx_outside.specs.Outside.{Wrote, Cut, Left}
 
--- bytes behind bytes
+-- bytes after bytes
 pub Wrote-append : (old mid new : Option (List ℕ)) (xs ys : List ℕ) → Wrote old mid xs → Wrote mid new ys → Wrote old new (xs ++ ys)
 Wrote-append None None None xs ys h k = tt
 Wrote-append (Some a) (Some b) (Some c) xs ys h k = k ∙ ap (λ v. v ++ ys) h ∙ append_assoc a xs ys
@@ -19,11 +19,11 @@ pub Wrote-nothing : (old : Option (List ℕ)) → Wrote old old []
 Wrote-nothing None = tt
 Wrote-nothing (Some a) = sym (append-nil a)
 
--- the whole is a front of itself
+-- the whole is a prefix of itself
 pub Cut-whole : (old new : Option (List ℕ)) (xs : List ℕ) → Wrote old new xs → Cut old new xs
 Cut-whole old new xs h = record { front = xs; wrote = h; begins = ([], sym (append-nil xs)) }
 
--- a front of the first bytes is a front of all
+-- a prefix of the first bytes is a prefix of all
 pub Cut-more : (old new : Option (List ℕ)) (xs ys : List ℕ) → Cut old new xs → Cut old new (xs ++ ys)
 Cut-more old new xs ys h = record {
   front = h.front;
@@ -31,7 +31,7 @@ Cut-more old new xs ys h = record {
   begins = (h.begins.0 ++ ys, rw h.begins.1 (simp append_assoc));
 }
 
--- a front behind bytes
+-- a prefix after bytes
 pub Cut-append : (old mid new : Option (List ℕ)) (xs ys : List ℕ) → Wrote old mid xs → Cut mid new ys → Cut old new (xs ++ ys)
 Cut-append old mid new xs ys h k = record {
   front = xs ++ k.front;

@@ -1,7 +1,6 @@
 -- What a source of files and a sink of bytes tell, and what a read and a put do to it.
 use Rattle.std.specs.Prelude.{◌≡◌, ℕ, ◌+◌, ◌-◌, ◌^◌, ◌<◌, ◌≤◌, min, List, [], ◌∷◌, ◌++◌, length, if◌then◌else◌, Option, Some, None, Result, Ok, Err, IsErr, OnErr, IsSomeAnd}
 use Rattle.std.specs.Str.{bytes_eq}
-use Rattle.nx_outside.specs.declared.files.TheConstants.{LONGEST}
 use Rattle.nx_outside.specs.declared.files.FileStop.{FileStop}
 use Rattle.nx_outside.specs.declared.files.FileStop.TheVariants.{TooLong, Failed, Memory}
 
@@ -12,7 +11,7 @@ pub record Told : Type 0 where
 
 -- the length in bytes of the longest content that a read hands out
 abbrev pub longest : ℕ
-longest = LONGEST
+longest = 1048576
 
 -- the content under the first entry of the name
 abbrev pub content_of : List (List ℕ × List ℕ) → List ℕ → Option (List ℕ)
@@ -34,17 +33,17 @@ Asked None (Some u) names = ⊥
 Asked (Some t) None names = ⊥
 Asked (Some t) (Some u) names = (u.contents ≡ t.contents) × (u.asked ≡ t.asked ++ names)
 
--- a read asks its name; which names were asked is open for want of memory alone
+-- a read asks its name; which names were asked is open only when out of memory
 abbrev pub Asks : {T : Type 0} → Result T FileStop → Option Told → Option Told → List ℕ → Type 0
 Asks (Err Memory) old new name = (names : List (List ℕ)) × Asked old new names
 Asks _ old new name = Asked old new (name ∷ [])
 
 -- where the contents are told, a read hands out the name's, and says that it is too long only where it is
-abbrev pub Reads : {T : Type 0} → Result T FileStop → Option Told → List ℕ → List ℕ → Type 0
-Reads r None name bytes = Unit {0}
-Reads (Ok _) (Some t) name bytes = content_of t.contents name ≡ Some bytes
-Reads (Err TooLong) (Some t) name bytes = IsLong t name
-Reads (Err _) (Some t) name bytes = Unit {0}
+abbrev pub HandsOut : {T : Type 0} → Result T FileStop → Option Told → List ℕ → List ℕ → Type 0
+HandsOut r None name bytes = Unit {0}
+HandsOut (Ok _) (Some t) name bytes = content_of t.contents name ≡ Some bytes
+HandsOut (Err TooLong) (Some t) name bytes = IsLong t name
+HandsOut (Err _) (Some t) name bytes = Unit {0}
 
 -- where the contents are told, one that is too long is refused
 abbrev pub RefusesLong : {T : Type 0} → Result T FileStop → Option Told → List ℕ → Type 0
@@ -61,24 +60,24 @@ pub record HasCause {T E : Type 0} (before now : ℕ) (result : Result T E) : Ty
   pub later : before ≤ now
   pub failed : OnErr result (Rose before now)
 
--- the bytes begin with this front
+-- the bytes begin with this prefix
 abbrev pub IsPrefixOf : List ℕ → List ℕ → Type 0
-IsPrefixOf front bytes = (rest : List ℕ) × (bytes ≡ front ++ rest)
+IsPrefixOf prefix bytes = (rest : List ℕ) × (bytes ≡ prefix ++ rest)
 
--- these bytes came behind those written, and whether they are told stays
+-- these bytes were written after those before, and whether they are told stays
 abbrev pub Wrote : Option (List ℕ) → Option (List ℕ) → List ℕ → Type 0
 Wrote None None bytes = Unit {0}
 Wrote None (Some ys) bytes = ⊥
 Wrote (Some xs) None bytes = ⊥
 Wrote (Some xs) (Some ys) bytes = ys ≡ xs ++ bytes
 
--- a front of the bytes was written
+-- a prefix of the bytes was written
 pub record Cut (old new : Option (List ℕ)) (bytes : List ℕ) : Type 0 where
   pub front : List ℕ
   pub wrote : Wrote old new front
   pub begins : IsPrefixOf front bytes
 
--- a put writes its piece, or a front of it where it fails
+-- a put writes its piece, or a prefix of it where it fails
 abbrev pub Puts : {T E : Type 0} → Result T E → Option (List ℕ) → Option (List ℕ) → List ℕ → Type 0
 Puts (Ok _) old new piece = Wrote old new piece
 Puts (Err _) old new piece = Cut old new piece

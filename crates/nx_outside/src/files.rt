@@ -1,5 +1,5 @@
 ghost use Rattle.std.specs.Prelude.{Option, ℕ, ◌≤◌, length, OnOk};
-ghost use Rattle.nx_outside.specs.Outside.{Told, Asks, Reads, RefusesLong, FailedByCause, longest};
+ghost use Rattle.nx_outside.specs.Outside.{Told, Asks, HandsOut, RefusesLong, FailedByCause, longest};
 
 use thiserror::Error;
 
@@ -15,7 +15,7 @@ pub enum FileStop {
     /// The outside failed. A missing name is such a fault too.
     #[error("cannot be read")]
     Failed,
-    /// There is no memory for the content.
+    /// The memory doesn't suffice for the content.
     #[error("out of memory")]
     Memory,
 }
@@ -31,7 +31,7 @@ pub trait Files {
     /// Replaces what `into` holds by the content of the file. After an error `into` is of no use.
     fn read(&mut self, name: &str, into: &mut Vec<u8>) -> Result<(), FileStop>
         ensures asks { Asks result (told self.old) (told self.new) name.now }
-        ensures reads { Reads result (told self.old) name.now into.new.items }
+        ensures reads { HandsOut result (told self.old) name.now into.new.items }
         ensures short { OnOk result (length into.new.items ≤ longest) }
         ensures long { RefusesLong result (told self.old) name.now }
         ensures cause { FailedByCause (faults self.old) (faults self.new) result };

@@ -1,7 +1,7 @@
 ghost use Rattle.std.specs.Prelude.{Some, None, ◌≡◌, ◌↔◌, ◌⊎◌, ◌≤◌, ◌<◌, [], ◌∷◌, ◌++◌, IsTrue, IfErr, OnOk, Contains, length, map};
 ghost use Rattle.std.specs.Option.{option_map};
 ghost use Rattle.std.specs.String.{string_bytes};
-ghost use Rattle.nx_outside.specs.Outside.{Asks, Reads, RefusesLong, FailedByCause, longest, content_of};
+ghost use Rattle.nx_outside.specs.Outside.{Asks, HandsOut, RefusesLong, FailedByCause, longest, content_of};
 ghost use Rattle.nx_outside.specs.Fakes.{next, files_seen, FailsRead, read_faults};
 
 use crate::files::{FileStop, Files, LONGEST};
@@ -10,7 +10,7 @@ use std::marker::Model;
 
 /// Files in memory, of which chosen reads fail.
 ///
-/// The reads are counted from 1, want of memory included; the count stays at 2^64 - 1.
+/// The reads are counted from 1, also those that end out of memory. The count stays at 2^64 - 1.
 #[derive(Drop)]
 pub struct MemFiles {
     alloc: Global,
@@ -77,7 +77,7 @@ impl MemFiles {
         self.calls = self.calls.saturating_add(1);
     }
 
-    // Puts the name behind those asked.
+    // Adds the name to those asked.
     fn note(&mut self, name: &str) -> Result<(), FileStop>
         ensures ok { OnOk result (self.new ≡ record self.old {
           told =
@@ -97,6 +97,7 @@ impl MemFiles {
         is_listed(&self.fails, self.calls)
     }
 
+    // The content under the name.
     fn find(&self, name: &str) -> Option<&[u8]>
         ensures { option_map (λ s. s.now) result ≡ content_of self.now.told.contents name.now }
     {
@@ -121,12 +122,12 @@ impl Files for MemFiles {
 
     fn read(&mut self, name: &str, into: &mut Vec<u8>) -> Result<(), FileStop>
         ensures asks { Asks result (Some self.old.told) (Some self.new.told) name.now }
-        ensures reads { Reads result (Some self.old.told) name.now into.new.items }
+        ensures reads { HandsOut result (Some self.old.told) name.now into.new.items }
         ensures short { OnOk result (length into.new.items ≤ longest) }
         ensures long { RefusesLong result (Some self.old.told) name.now }
         ensures cause { FailedByCause self.old.faults self.new.faults result }
 
-        // Exactly the reads that are to fail do, but for want of memory.
+        // Exactly the reads that are to fail do, except those that end out of memory.
         ensures failed { (result ≡ Err FileStop.Failed) → FailsRead self.old name.now }
         ensures fails { FailsRead self.old name.now
             → (result ≡ Err FileStop.Failed) ⊎ (result ≡ Err FileStop.Memory) }

@@ -4,7 +4,8 @@ ghost use Rattle.nx_outside.specs.Fakes.{next, FailsPut, kept, put_faults};
 
 use crate::mem_files::is_listed;
 use crate::sink::{Sink, SinkFail};
-use std::alloc::{AllocError, Global};
+use nx_base::OutOfMemory;
+use std::alloc::Global;
 use std::marker::Model;
 
 /// A sink in memory, of which chosen puts fail.
@@ -47,7 +48,7 @@ impl MemSink {
         fails: Vec<u32>,
         keep: usize,
         room: usize,
-    ) -> Result<MemSink, AllocError>
+    ) -> Result<MemSink, OutOfMemory>
         ensures { IfOk result (λ s. s ≡ record {
           bytes = [];
           fails = fails.items;
@@ -105,7 +106,7 @@ impl MemSink {
     {
         self.failed = self.failed.saturating_add(1);
         let left = self.room - self.written.len();
-        append_front(&mut self.written, piece, self.keep.min(left));
+        append_prefix(&mut self.written, piece, self.keep.min(left));
         Err(SinkFail)
     }
 
@@ -129,7 +130,7 @@ impl Sink for MemSink {
 
         // Exactly the puts that are to fail do, and keep so much of the piece.
         ensures fails { IsErr result ↔ FailsPut self.old piece.now }
-        ensures front { OnErr result
+        ensures prefix { OnErr result
             (self.new.bytes ≡ self.old.bytes ++ take (kept self.old) piece.now) }
 
         // Each put has its number, and each fault is counted once.
@@ -163,7 +164,7 @@ fn append(written: &mut Vec<u8>, bytes: &[u8])
 }
 
 // Appends the first of the bytes where the capacity holds them.
-fn append_front(written: &mut Vec<u8>, bytes: &[u8], most: usize)
+fn append_prefix(written: &mut Vec<u8>, bytes: &[u8], most: usize)
     requires { length written.old.items + most ≤ vec_capacity written.old }
     ensures bytes { written.new.items ≡ written.old.items ++ take most bytes.now }
     ensures capacity { vec_capacity written.old ≤ vec_capacity written.new }

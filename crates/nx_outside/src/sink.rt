@@ -16,7 +16,7 @@ pub trait Sink {
     /// How many puts have failed so far. The count may stay at 2^64 - 1 once it is there.
     ghost faults: { Self → ℕ };
 
-    /// Appends the piece. After an error a front of it was appended, of a length that is left open.
+    /// Appends the piece. After an error a prefix of it was appended, of a length that is left open.
     fn put(&mut self, piece: &[u8]) -> Result<(), SinkFail>
         ensures puts { Puts result (told self.old) (told self.new) piece.now }
         ensures cause { HasCause (faults self.old) (faults self.new) result };

@@ -10,7 +10,7 @@ use Rattle.nx_rv.specs.declared.inst.Inst.{Inst}
 use Rattle.nx_rv.specs.declared.inst.Inst.TheVariants.{Branch, Load, Store, Op}
 use Rattle.nx_rv.specs.Formats.{pack, low_bits, pack_i, pack_s, pack_b}
 use Rattle.nx_rv.specs.Codes.{branch_funct3, branch_of, load_funct3, load_of, store_funct3, store_of, op_funct3, op_funct7, op_imm_of, op_of, base_op_of, other_op_of, multiply_of}
-use Rattle.nx_rv.specs.Table.{FitsR, FitsI, FitsS, FitsB, IsLoad, IsStore, IsInRange, op_imm_word, encode_of}
+use Rattle.nx_rv.specs.Table.{FitsR, FitsI, FitsS, FitsB, IsLoad, IsStore, IsInRange, op_imm_word, table_word}
 
 -- a choice that gives something, by its test
 by_test : {P : Type 0} (b : Bool) (x y : Option Inst) (i : Inst) → (if b then x else y) ≡ Some i → (b ≡ true → x ≡ Some i → P) → (y ≡ Some i → P) → P
@@ -25,14 +25,14 @@ by_both a b c d x y i e f g = by_test (a == b && c == d) x y i e (λ t s. f (gri
 
 -- an instruction in range, and its word
 abbrev pub Encodes : ℕ → Inst → Type 0
-Encodes w i = IsInRange i × (encode_of i ≡ w)
+Encodes w i = IsInRange i × (table_word i ≡ w)
 
 -- what was found is what it is
-pub found : (w : ℕ) (j i : Inst) → Some j ≡ Some i → IsInRange j → encode_of j ≡ w → Encodes w i
+pub found : (w : ℕ) (j i : Inst) → Some j ≡ Some i → IsInRange j → table_word j ≡ w → Encodes w i
 found w j i s h e = let s' : j ≡ i = cc in subst (Encodes w) s' (h, e)
 
 pub branch_encodes : (f3 rs1 rs2 : ℕ) (offset : ℤ) (i : Inst) → FitsB rs1 rs2 offset → branch_of f3 rs1 rs2 offset ≡ Some i → Encodes (pack_b 0x63 f3 rs1 rs2 (low_bits 8192 offset)) i
-unfolding branch_of encode_of
+unfolding branch_of table_word
 branch_encodes f3 rs1 rs2 offset i h e =
     by_eq f3 0 _ _ i e (row cond.Eq)
     (λ e. by_eq f3 1 _ _ i e (row cond.Ne)
@@ -63,7 +63,7 @@ branch_small cond.Ltu = omega arith
 branch_small cond.Geu = omega arith
 
 pub load_encodes : (f3 rd rs1 : ℕ) (imm : ℤ) (i : Inst) → FitsI rd rs1 imm → load_of f3 rd rs1 imm ≡ Some i → Encodes (pack_i 0x03 rd f3 rs1 (low_bits 4096 imm)) i
-unfolding load_of encode_of
+unfolding load_of table_word
 load_encodes f3 rd rs1 imm i h e =
     by_eq f3 0 _ _ i e (row 1 true (inl refl))
     (λ e. by_eq f3 1 _ _ i e (row 2 true (inr (inl refl)))
@@ -89,7 +89,7 @@ load_small width false h =
     ⊎_elim (λ e. rw e (omega arith)) (λ e. rw e (omega arith)) h
 
 pub store_encodes : (f3 rs1 rs2 : ℕ) (imm : ℤ) (i : Inst) → FitsS rs1 rs2 imm → store_of f3 rs1 rs2 imm ≡ Some i → Encodes (pack_s 0x23 f3 rs1 rs2 (low_bits 4096 imm)) i
-unfolding store_of encode_of
+unfolding store_of table_word
 store_encodes f3 rs1 rs2 imm i h e =
     by_eq f3 0 _ _ i e (row 1 (inl refl))
     (λ e. by_eq f3 1 _ _ i e (row 2 (inr (inl refl)))
@@ -109,7 +109,7 @@ store_small width h =
     ⊎_elim (λ e. rw e (omega arith)) (λ o. ⊎_elim (λ e. rw e (omega arith)) (λ e. rw e (omega arith)) o) h
 
 pub op_imm_encodes : (f3 f7 rd rs1 rs2 : ℕ) (imm : ℤ) (i : Inst) (w : ℕ) → FitsI rd rs1 imm → rs2 < 32 → pack_i 0x13 rd f3 rs1 (low_bits 4096 imm) ≡ w → pack 0x13 rd f3 rs1 rs2 f7 ≡ w → op_imm_of f3 f7 rd rs1 rs2 imm ≡ Some i → Encodes w i
-unfolding op_imm_of encode_of op_imm_word low_bits
+unfolding op_imm_of table_word op_imm_word low_bits
 op_imm_encodes f3 f7 rd rs1 rs2 imm i w h l p q e =
     by_eq f3 0 _ _ i e (λ a s. found _ _ i s h (ap (λ k. pack_i 0x13 rd k rs1 (low_bits 4096 imm)) (sym a) ∙ p))
     (λ e. by_eq f3 2 _ _ i e (λ a s. found _ _ i s h (ap (λ k. pack_i 0x13 rd k rs1 (low_bits 4096 imm)) (sym a) ∙ p))
@@ -126,7 +126,7 @@ op_imm_encodes f3 f7 rd rs1 rs2 imm i w h l p q e =
     shift k m a b = let c : rs2 % 32 ≡ rs2 = omega arith in rw (c, sym a, sym b) q
 
 pub op_encodes : (f3 f7 rd rs1 rs2 : ℕ) (i : Inst) → FitsR rd rs1 rs2 → op_of f3 f7 rd rs1 rs2 ≡ Some i → Encodes (pack 0x33 rd f3 rs1 rs2 f7) i
-unfolding op_of base_op_of other_op_of multiply_of encode_of
+unfolding op_of base_op_of other_op_of multiply_of table_word
 op_encodes f3 f7 rd rs1 rs2 i h e =
     by_eq f7 0x00 _ _ i e base
     (λ e. by_eq f7 0x20 _ _ i e other

@@ -1,5 +1,5 @@
 -- Words, instructions and rows.
-use Rattle.std.proofs.Common.{◌≡◌, ℕ, ◌^◌, ◌<◌, true, false, Option, Some, None, refl, sym, ap, ◌∙◌, subst, arith, ⊎_elim, inl, inr}
+use Rattle.std.proofs.Common.{◌≡◌, ℕ, ◌*◌, ◌/◌, ◌%◌, ◌^◌, ◌<◌, true, false, Option, Some, None, refl, sym, ap, ◌∙◌, subst, arith, ⊎_elim, inl, inr}
 use Rattle.std.specs.Prelude.{ℤ, pos, IfSome, MatchOption}
 use Rattle.nx_base.specs.declared.kinds.AluOp.{AluOp}
 use Rattle.nx_base.specs.declared.kinds.AluOp.TheVariants as op
@@ -8,7 +8,7 @@ use Rattle.nx_rv.specs.declared.inst.Inst.{Inst}
 use Rattle.nx_rv.specs.declared.inst.Inst.TheVariants.{Lui, Auipc, Jal, Jalr, Branch, Load, Store, OpImm, Op, Fence, Ecall, Ebreak}
 use Rattle.nx_rv.specs.Formats.{pack, opcode, rd_of, funct3, rs1_of, rs2_of, funct7, low_bits, imm_i, imm_s, imm_b, imm_u, imm_j, pack_i, pack_s}
 use Rattle.nx_rv.specs.Codes.{branch_funct3, branch_of, load_funct3, load_of, store_funct3, store_of, op_funct3, op_funct7, op_imm_of, op_of, jalr_of, fence_of, system_of}
-use Rattle.nx_rv.specs.Table.{Row, LUI, AUIPC, JAL, JALR, BEQ, BNE, BLT, BGE, BLTU, BGEU, LB, LH, LW, LBU, LHU, SB, SH, SW, ADDI, SLTI, SLTIU, XORI, ORI, ANDI, SLLI, SRLI, SRAI, ADD, SUB, SLL, SLT, SLTU, XOR, SRL, SRA, OR, AND, FENCE, ECALL, EBREAK, MUL, MULH, MULHSU, MULHU, DIV, DIVU, REM, REMU, FitsShift, IsInRange, op_imm_word, decode_of, encode_of}
+use Rattle.nx_rv.specs.Table.{Row, LUI, AUIPC, JAL, JALR, BEQ, BNE, BLT, BGE, BLTU, BGEU, LB, LH, LW, LBU, LHU, SB, SH, SW, ADDI, SLTI, SLTIU, XORI, ORI, ANDI, SLLI, SRLI, SRAI, ADD, SUB, SLL, SLT, SLTU, XOR, SRL, SRA, OR, AND, FENCE, ECALL, EBREAK, MUL, MULH, MULHSU, MULHU, DIV, DIVU, REM, REMU, FitsShift, IsInRange, op_imm_word, table_word, masked, encode_of, decode_of, FitsOpImm}
 use Rattle.nx_rv.proofs.Bits.{five_low, low_below}
 use Rattle.nx_rv.proofs.Words.{HasFields, fields_of, pack_below, HasI, i_of, HasS, s_of, HasB, b_of, HasU, u_of, HasJ, j_of, rd_below, rs1_below, rs2_below, back_r, i_fits, back_i, s_fits, back_s, b_fits, back_b, u_fits, back_u, j_fits, back_j}
 use Rattle.nx_rv.proofs.Groups.{by_eq, Encodes, found, branch_encodes, branch_back, branch_small, load_encodes, load_back, load_small, store_encodes, store_back, store_small, op_imm_encodes, op_encodes, op_back, op_small}
@@ -64,64 +64,64 @@ shift_back f3 f7 rd rs1 imm o a h e =
     let n = low_bits 32 imm in
     decode_shift _ rd f3 rs1 n f7 _ (fields_of 0x13 rd f3 rs1 n f7 (omega arith) h.0 a h.1 (low_below 32 imm (omega arith))) (λ z. e n z) ∙ ap (λ z. Some (OpImm o rd rs1 z)) (five_low imm h.2)
 
-pub decode_encode : (i : Inst) → IsInRange i → decode_of (encode_of i) ≡ Some i
-unfolding encode_of op_imm_word op_imm_of system_of decode_of opcode
-decode_encode (Lui rd imm) h = decode_lui _ rd imm (u_of 0x37 rd imm (omega arith) h)
-decode_encode (Auipc rd imm) h = decode_auipc _ rd imm (u_of 0x17 rd imm (omega arith) h)
-decode_encode (Jal rd offset) h = decode_jal _ rd offset (j_of 0x6F rd offset (omega arith) h)
-decode_encode (Jalr rd rs1 imm) h = decode_jalr _ rd rs1 imm (i_of 0x67 rd 0 rs1 imm (omega arith) (omega arith) h)
-decode_encode (Branch c rs1 rs2 offset) h = decode_branch _ (branch_funct3 c) rs1 rs2 offset _ (b_of 0x63 (branch_funct3 c) rs1 rs2 offset (omega arith) (branch_small c) h) (branch_back c rs1 rs2 offset)
-decode_encode (Load width signed rd rs1 imm) h = decode_load _ rd (load_funct3 width signed) rs1 imm _ (i_of 0x03 rd (load_funct3 width signed) rs1 imm (omega arith) (load_small width signed h.0) h.1) (load_back width signed rd rs1 imm h.0)
-decode_encode (Store width rs1 rs2 imm) h = decode_store _ (store_funct3 width) rs1 rs2 imm _ (s_of 0x23 (store_funct3 width) rs1 rs2 imm (omega arith) (store_small width h.0) h.1) (store_back width rs1 rs2 imm h.0)
-decode_encode (OpImm op.Add rd rs1 imm) h = decode_imm _ rd 0 rs1 imm _ (i_of 0x13 rd 0 rs1 imm (omega arith) (omega arith) h) (λ f7 rs2. refl)
-decode_encode (OpImm op.Slt rd rs1 imm) h = decode_imm _ rd 2 rs1 imm _ (i_of 0x13 rd 2 rs1 imm (omega arith) (omega arith) h) (λ f7 rs2. refl)
-decode_encode (OpImm op.Sltu rd rs1 imm) h = decode_imm _ rd 3 rs1 imm _ (i_of 0x13 rd 3 rs1 imm (omega arith) (omega arith) h) (λ f7 rs2. refl)
-decode_encode (OpImm op.Xor rd rs1 imm) h = decode_imm _ rd 4 rs1 imm _ (i_of 0x13 rd 4 rs1 imm (omega arith) (omega arith) h) (λ f7 rs2. refl)
-decode_encode (OpImm op.Or rd rs1 imm) h = decode_imm _ rd 6 rs1 imm _ (i_of 0x13 rd 6 rs1 imm (omega arith) (omega arith) h) (λ f7 rs2. refl)
-decode_encode (OpImm op.And rd rs1 imm) h = decode_imm _ rd 7 rs1 imm _ (i_of 0x13 rd 7 rs1 imm (omega arith) (omega arith) h) (λ f7 rs2. refl)
-decode_encode (OpImm op.Sll rd rs1 imm) h = shift_back 1 0x00 rd rs1 imm op.Sll (omega arith) h (λ rs2 z. refl)
-decode_encode (OpImm op.Srl rd rs1 imm) h = shift_back 5 0x00 rd rs1 imm op.Srl (omega arith) h (λ rs2 z. refl)
-decode_encode (OpImm op.Sra rd rs1 imm) h = shift_back 5 0x20 rd rs1 imm op.Sra (omega arith) h (λ rs2 z. refl)
-decode_encode (OpImm o rd rs1 imm) h = absurd h
-decode_encode (Op o rd rs1 rs2) h =
+decode_table : (i : Inst) → IsInRange i → decode_of (table_word i) ≡ Some i
+unfolding table_word op_imm_word op_imm_of system_of decode_of opcode
+decode_table (Lui rd imm) h = decode_lui _ rd imm (u_of 0x37 rd imm (omega arith) h)
+decode_table (Auipc rd imm) h = decode_auipc _ rd imm (u_of 0x17 rd imm (omega arith) h)
+decode_table (Jal rd offset) h = decode_jal _ rd offset (j_of 0x6F rd offset (omega arith) h)
+decode_table (Jalr rd rs1 imm) h = decode_jalr _ rd rs1 imm (i_of 0x67 rd 0 rs1 imm (omega arith) (omega arith) h)
+decode_table (Branch c rs1 rs2 offset) h = decode_branch _ (branch_funct3 c) rs1 rs2 offset _ (b_of 0x63 (branch_funct3 c) rs1 rs2 offset (omega arith) (branch_small c) h) (branch_back c rs1 rs2 offset)
+decode_table (Load width signed rd rs1 imm) h = decode_load _ rd (load_funct3 width signed) rs1 imm _ (i_of 0x03 rd (load_funct3 width signed) rs1 imm (omega arith) (load_small width signed h.0) h.1) (load_back width signed rd rs1 imm h.0)
+decode_table (Store width rs1 rs2 imm) h = decode_store _ (store_funct3 width) rs1 rs2 imm _ (s_of 0x23 (store_funct3 width) rs1 rs2 imm (omega arith) (store_small width h.0) h.1) (store_back width rs1 rs2 imm h.0)
+decode_table (OpImm op.Add rd rs1 imm) h = decode_imm _ rd 0 rs1 imm _ (i_of 0x13 rd 0 rs1 imm (omega arith) (omega arith) h) (λ f7 rs2. refl)
+decode_table (OpImm op.Slt rd rs1 imm) h = decode_imm _ rd 2 rs1 imm _ (i_of 0x13 rd 2 rs1 imm (omega arith) (omega arith) h) (λ f7 rs2. refl)
+decode_table (OpImm op.Sltu rd rs1 imm) h = decode_imm _ rd 3 rs1 imm _ (i_of 0x13 rd 3 rs1 imm (omega arith) (omega arith) h) (λ f7 rs2. refl)
+decode_table (OpImm op.Xor rd rs1 imm) h = decode_imm _ rd 4 rs1 imm _ (i_of 0x13 rd 4 rs1 imm (omega arith) (omega arith) h) (λ f7 rs2. refl)
+decode_table (OpImm op.Or rd rs1 imm) h = decode_imm _ rd 6 rs1 imm _ (i_of 0x13 rd 6 rs1 imm (omega arith) (omega arith) h) (λ f7 rs2. refl)
+decode_table (OpImm op.And rd rs1 imm) h = decode_imm _ rd 7 rs1 imm _ (i_of 0x13 rd 7 rs1 imm (omega arith) (omega arith) h) (λ f7 rs2. refl)
+decode_table (OpImm op.Sll rd rs1 imm) h = shift_back 1 0x00 rd rs1 imm op.Sll (omega arith) h (λ rs2 z. refl)
+decode_table (OpImm op.Srl rd rs1 imm) h = shift_back 5 0x00 rd rs1 imm op.Srl (omega arith) h (λ rs2 z. refl)
+decode_table (OpImm op.Sra rd rs1 imm) h = shift_back 5 0x20 rd rs1 imm op.Sra (omega arith) h (λ rs2 z. refl)
+decode_table (OpImm o rd rs1 imm) h = absurd h
+decode_table (Op o rd rs1 rs2) h =
     let f3 = op_funct3 o in
     let f7 = op_funct7 o in
     decode_op _ rd f3 rs1 rs2 f7 _ (fields_of 0x33 rd f3 rs1 rs2 f7 (omega arith) h.0 (op_small o).0 h.1 h.2) (op_back o rd rs1 rs2)
-decode_encode (Fence rd rs1 imm) h = decode_fence _ rd rs1 imm (i_of 0x0F rd 0 rs1 imm (omega arith) (omega arith) h)
-decode_encode Ecall h = refl
-decode_encode Ebreak h = refl
+decode_table (Fence rd rs1 imm) h = decode_fence _ rd rs1 imm (i_of 0x0F rd 0 rs1 imm (omega arith) (omega arith) h)
+decode_table Ecall h = refl
+decode_table Ebreak h = refl
 
 -- the word of an instruction has 32 bits
 shift_small : (f3 f7 rd rs1 : ℕ) (imm : ℤ) → f3 < 8 → f7 < 128 → FitsShift rd rs1 imm → pack 0x13 rd f3 rs1 (low_bits 32 imm) f7 < 2 ^ 32
 shift_small f3 f7 rd rs1 imm a b h = pack_below 0x13 rd f3 rs1 (low_bits 32 imm) f7 (omega arith) h.0 a h.1 (low_below 32 imm (omega arith)) b
 
-pub encode_small : (i : Inst) → IsInRange i → encode_of i < 2 ^ 32
-unfolding encode_of op_imm_word
-encode_small (Lui rd imm) h = (u_of 0x37 rd imm (omega arith) h).small
-encode_small (Auipc rd imm) h = (u_of 0x17 rd imm (omega arith) h).small
-encode_small (Jal rd offset) h = (j_of 0x6F rd offset (omega arith) h).small
-encode_small (Jalr rd rs1 imm) h = (i_of 0x67 rd 0 rs1 imm (omega arith) (omega arith) h).small
-encode_small (Branch c rs1 rs2 offset) h = (b_of 0x63 (branch_funct3 c) rs1 rs2 offset (omega arith) (branch_small c) h).small
-encode_small (Load width signed rd rs1 imm) h = (i_of 0x03 rd (load_funct3 width signed) rs1 imm (omega arith) (load_small width signed h.0) h.1).small
-encode_small (Store width rs1 rs2 imm) h = (s_of 0x23 (store_funct3 width) rs1 rs2 imm (omega arith) (store_small width h.0) h.1).small
-encode_small (OpImm op.Add rd rs1 imm) h = (i_of 0x13 rd 0 rs1 imm (omega arith) (omega arith) h).small
-encode_small (OpImm op.Slt rd rs1 imm) h = (i_of 0x13 rd 2 rs1 imm (omega arith) (omega arith) h).small
-encode_small (OpImm op.Sltu rd rs1 imm) h = (i_of 0x13 rd 3 rs1 imm (omega arith) (omega arith) h).small
-encode_small (OpImm op.Xor rd rs1 imm) h = (i_of 0x13 rd 4 rs1 imm (omega arith) (omega arith) h).small
-encode_small (OpImm op.Or rd rs1 imm) h = (i_of 0x13 rd 6 rs1 imm (omega arith) (omega arith) h).small
-encode_small (OpImm op.And rd rs1 imm) h = (i_of 0x13 rd 7 rs1 imm (omega arith) (omega arith) h).small
-encode_small (OpImm op.Sll rd rs1 imm) h = shift_small 1 0x00 rd rs1 imm (omega arith) (omega arith) h
-encode_small (OpImm op.Srl rd rs1 imm) h = shift_small 5 0x00 rd rs1 imm (omega arith) (omega arith) h
-encode_small (OpImm op.Sra rd rs1 imm) h = shift_small 5 0x20 rd rs1 imm (omega arith) (omega arith) h
-encode_small (OpImm o rd rs1 imm) h = absurd h
-encode_small (Op o rd rs1 rs2) h = pack_below 0x33 rd (op_funct3 o) rs1 rs2 (op_funct7 o) (omega arith) h.0 (op_small o).0 h.1 h.2 (op_small o).1
-encode_small (Fence rd rs1 imm) h = (i_of 0x0F rd 0 rs1 imm (omega arith) (omega arith) h).small
-encode_small Ecall h = omega arith
-encode_small Ebreak h = omega arith
+table_small : (i : Inst) → IsInRange i → table_word i < 2 ^ 32
+unfolding table_word op_imm_word
+table_small (Lui rd imm) h = (u_of 0x37 rd imm (omega arith) h).small
+table_small (Auipc rd imm) h = (u_of 0x17 rd imm (omega arith) h).small
+table_small (Jal rd offset) h = (j_of 0x6F rd offset (omega arith) h).small
+table_small (Jalr rd rs1 imm) h = (i_of 0x67 rd 0 rs1 imm (omega arith) (omega arith) h).small
+table_small (Branch c rs1 rs2 offset) h = (b_of 0x63 (branch_funct3 c) rs1 rs2 offset (omega arith) (branch_small c) h).small
+table_small (Load width signed rd rs1 imm) h = (i_of 0x03 rd (load_funct3 width signed) rs1 imm (omega arith) (load_small width signed h.0) h.1).small
+table_small (Store width rs1 rs2 imm) h = (s_of 0x23 (store_funct3 width) rs1 rs2 imm (omega arith) (store_small width h.0) h.1).small
+table_small (OpImm op.Add rd rs1 imm) h = (i_of 0x13 rd 0 rs1 imm (omega arith) (omega arith) h).small
+table_small (OpImm op.Slt rd rs1 imm) h = (i_of 0x13 rd 2 rs1 imm (omega arith) (omega arith) h).small
+table_small (OpImm op.Sltu rd rs1 imm) h = (i_of 0x13 rd 3 rs1 imm (omega arith) (omega arith) h).small
+table_small (OpImm op.Xor rd rs1 imm) h = (i_of 0x13 rd 4 rs1 imm (omega arith) (omega arith) h).small
+table_small (OpImm op.Or rd rs1 imm) h = (i_of 0x13 rd 6 rs1 imm (omega arith) (omega arith) h).small
+table_small (OpImm op.And rd rs1 imm) h = (i_of 0x13 rd 7 rs1 imm (omega arith) (omega arith) h).small
+table_small (OpImm op.Sll rd rs1 imm) h = shift_small 1 0x00 rd rs1 imm (omega arith) (omega arith) h
+table_small (OpImm op.Srl rd rs1 imm) h = shift_small 5 0x00 rd rs1 imm (omega arith) (omega arith) h
+table_small (OpImm op.Sra rd rs1 imm) h = shift_small 5 0x20 rd rs1 imm (omega arith) (omega arith) h
+table_small (OpImm o rd rs1 imm) h = absurd h
+table_small (Op o rd rs1 rs2) h = pack_below 0x33 rd (op_funct3 o) rs1 rs2 (op_funct7 o) (omega arith) h.0 (op_small o).0 h.1 h.2 (op_small o).1
+table_small (Fence rd rs1 imm) h = (i_of 0x0F rd 0 rs1 imm (omega arith) (omega arith) h).small
+table_small Ecall h = omega arith
+table_small Ebreak h = omega arith
 
 -- a word that decodes is its instruction's, which is in range
 pub decode_encodes : (w : ℕ) (i : Inst) → w < 2 ^ 32 → decode_of w ≡ Some i → Encodes w i
-unfolding decode_of jalr_of fence_of system_of encode_of
+unfolding decode_of jalr_of fence_of system_of table_word
 decode_encodes w i h e =
     by_eq (opcode w) 0x37 _ _ i e (λ a s. lui a s)
     (λ e. by_eq (opcode w) 0x17 _ _ i e (λ a s. auipc a s)
@@ -157,12 +157,52 @@ decode_encodes w i h e =
     ebreak : w ≡ 0x00100073 → Some Ebreak ≡ Some i → Encodes w i
     ebreak a s = found w _ i s tt (sym a)
 
+-- an operation with an immediate that is in range has its registers in range
+op_imm_registers : (o : AluOp) (rd rs1 : ℕ) (imm : ℤ) → FitsOpImm o rd rs1 imm → (rd < 32) × (rs1 < 32)
+op_imm_registers op.Add rd rs1 imm h = (h.0, h.1)
+op_imm_registers op.Slt rd rs1 imm h = (h.0, h.1)
+op_imm_registers op.Sltu rd rs1 imm h = (h.0, h.1)
+op_imm_registers op.Xor rd rs1 imm h = (h.0, h.1)
+op_imm_registers op.Or rd rs1 imm h = (h.0, h.1)
+op_imm_registers op.And rd rs1 imm h = (h.0, h.1)
+op_imm_registers op.Sll rd rs1 imm h = (h.0, h.1)
+op_imm_registers op.Srl rd rs1 imm h = (h.0, h.1)
+op_imm_registers op.Sra rd rs1 imm h = (h.0, h.1)
+op_imm_registers o rd rs1 imm h = absurd h
+
+-- fields that are in range stay as they are
+masked_same : (i : Inst) → IsInRange i → masked i ≡ i
+unfolding masked
+masked_same (Lui rd imm) h = let r : rd % 32 ≡ rd = omega arith in let n : imm / 4096 * 4096 ≡ imm = omega arith in cc
+masked_same (Auipc rd imm) h = let r : rd % 32 ≡ rd = omega arith in let n : imm / 4096 * 4096 ≡ imm = omega arith in cc
+masked_same (Jal rd offset) h = let r : rd % 32 ≡ rd = omega arith in cc
+masked_same (Jalr rd rs1 imm) h = let r : rd % 32 ≡ rd = omega arith in let a : rs1 % 32 ≡ rs1 = omega arith in cc
+masked_same (Branch c rs1 rs2 offset) h = let a : rs1 % 32 ≡ rs1 = omega arith in let b : rs2 % 32 ≡ rs2 = omega arith in cc
+masked_same (Load width signed rd rs1 imm) h = let r : rd % 32 ≡ rd = omega arith in let a : rs1 % 32 ≡ rs1 = omega arith in cc
+masked_same (Store width rs1 rs2 imm) h = let a : rs1 % 32 ≡ rs1 = omega arith in let b : rs2 % 32 ≡ rs2 = omega arith in cc
+masked_same (OpImm o rd rs1 imm) h = let f = op_imm_registers o rd rs1 imm h in let r : rd % 32 ≡ rd = omega arith in let a : rs1 % 32 ≡ rs1 = omega arith in cc
+masked_same (Op o rd rs1 rs2) h = let r : rd % 32 ≡ rd = omega arith in let a : rs1 % 32 ≡ rs1 = omega arith in let b : rs2 % 32 ≡ rs2 = omega arith in cc
+masked_same (Fence rd rs1 imm) h = let r : rd % 32 ≡ rd = omega arith in let a : rs1 % 32 ≡ rs1 = omega arith in cc
+masked_same Ecall h = refl
+masked_same Ebreak h = refl
+
+-- the word of an instruction in range is the table's
+encode_table : (i : Inst) → IsInRange i → encode_of i ≡ table_word i
+unfolding encode_of
+encode_table i h = ap table_word (masked_same i h)
+
+pub decode_encode : (i : Inst) → IsInRange i → decode_of (encode_of i) ≡ Some i
+decode_encode i h = subst (λ n. decode_of n ≡ Some i) (sym (encode_table i h)) (decode_table i h)
+
+pub encode_small : (i : Inst) → IsInRange i → encode_of i < 2 ^ 32
+encode_small i h = subst (λ n. n < 2 ^ 32) (sym (encode_table i h)) (table_small i h)
+
 pub encode_decode : (w : ℕ) (i : Inst) → w < 2 ^ 32 → decode_of w ≡ Some i → encode_of i ≡ w
-encode_decode w i h e = (decode_encodes w i h e).1
+encode_decode w i h e = let q = decode_encodes w i h e in encode_table i q.0 ∙ q.1
 
 -- a row is the word of an instruction in range
-pub row_of : (i : Inst) → IsInRange i → Row (encode_of i) i
-unfolding encode_of op_imm_word
+pub row_of : (i : Inst) → IsInRange i → Row (table_word i) i
+unfolding table_word op_imm_word
 row_of (Lui rd imm) h = LUI rd imm h
 row_of (Auipc rd imm) h = AUIPC rd imm h
 row_of (Jal rd offset) h = JAL rd offset h
@@ -215,7 +255,7 @@ row_of Ecall h = ECALL
 row_of Ebreak h = EBREAK
 
 pub of_row : (w : ℕ) (i : Inst) → Row w i → Encodes w i
-unfolding encode_of op_imm_word
+unfolding table_word op_imm_word
 of_row _ _ (LUI rd imm h) = (h, refl)
 of_row _ _ (AUIPC rd imm h) = (h, refl)
 of_row _ _ (JAL rd offset h) = (h, refl)
@@ -266,11 +306,11 @@ of_row _ _ (REM rd rs1 rs2 h) = (h, refl)
 of_row _ _ (REMU rd rs1 rs2 h) = (h, refl)
 
 pub row_decodes : (w : ℕ) (i : Inst) → Row w i → decode_of w ≡ Some i
-row_decodes w i r = let q = of_row w i r in subst (λ n. decode_of n ≡ Some i) q.1 (decode_encode i q.0)
+row_decodes w i r = let q = of_row w i r in subst (λ n. decode_of n ≡ Some i) q.1 (decode_table i q.0)
 
 -- what encoding and decoding answer, as rows
-pub encoded_row : (w : ℕ) (i : Inst) → IsInRange i → w ≡ encode_of i → Row w i
-encoded_row w i h e = subst (λ n. Row n i) (sym e) (row_of i h)
+pub encoded_row : (w : ℕ) (i : Inst) → w ≡ encode_of i → IsInRange i → Row w i
+encoded_row w i e h = subst (λ n. Row n i) (sym (e ∙ encode_table i h)) (row_of i h)
 
 pub decoded_row : (w : ℕ) (o : Option Inst) → w < 2 ^ 32 → o ≡ decode_of w → MatchOption o ((i : Inst) → ¬ Row w i) (λ i. Row w i)
 decoded_row w None h e = λ i row. let d = row_decodes w i row in absurd cc

@@ -181,7 +181,7 @@ execute_jal : (r : Regs) (v : View) (pc to rd link : ℕ) (offset : ℤ) → r.p
 unfolding execute linked
 execute_jal r v pc to rd link offset e p a l h = let q : (pc + 4) % 2 ^ 32 ≡ link = omega arith in rw (e, p, a, q)
 
--- a jump that keeps the address behind it
+-- a jump that keeps the address after it
 pub jal_went : (r : Regs) (v : View) (pc to : ℕ) (t : ℕ → ℕ) (rd link : ℕ) (offset : ℤ) → plus pc offset ≡ to → to % 4 ≡ 0 → link ≡ pc + 4 → link < 2 ^ 32 → (rd == 0) ≡ false → IsHere v pc (Jal rd offset) → IsAt r pc t → Went 1 r v to (put t rd link)
 jal_went r v pc to t rd link offset p a l h z here s = record {
   regs = jump (with_reg r rd link) to;

@@ -26,7 +26,7 @@ pub data Turn : Type 0 where
   Calls : (r : Regs) (v : View) → Turn
   Traps : (cause : ℕ) (r : Regs) (v : View) → Turn
 
--- a jump that keeps the address behind it, or a misaligned target
+-- a jump that keeps the address after it, or a misaligned target, which has cause 0
 unfoldable pub linked : ℕ → ℕ → Regs → View → Turn
 linked rd to r v = if to % 4 == 0 then Goes (jump (with_reg r rd ((r.pc + 4) % 2 ^ 32)) to) v else Traps 0 r v
 
@@ -46,7 +46,7 @@ unfoldable pub stored : Result View ℕ → Regs → View → Turn
 stored (Ok new) r v = Goes (advance r) new
 stored (Err cause) r v = Traps cause r v
 
--- one instruction: the misaligned address of a load has cause 4, of a store 6, before the view is asked
+-- one instruction; a misaligned load has cause 4 and a misaligned store 6, before the view is asked; EBREAK has cause 3
 unfoldable pub execute : Inst → Regs → View → Turn
 execute (Lui rd imm) r v = Goes (advance (with_reg r rd imm)) v
 execute (Auipc rd imm) r v = Goes (advance (with_reg r rd ((r.pc + imm) % 2 ^ 32))) v
@@ -72,11 +72,11 @@ unfoldable pub fetched : Result ℕ ℕ → Regs → View → Turn
 fetched (Ok word) r v = decoded (decode_of word) r v
 fetched (Err cause) r v = Traps cause r v
 
--- the instruction at the pc
+-- the instruction at the pc; a misaligned pc has cause 0
 unfoldable pub turn : Regs → View → Turn
 turn r v = if r.pc % 4 == 0 then fetched (fetch_word v r.pc) r v else Traps 0 r v
 
--- where a turn doesn't go on, nothing has changed but the pc of a call, which is behind it
+-- where a turn doesn't go on, nothing has changed except the pc of a call, which is after it
 abbrev pub HaltsInPlace : Regs → View → Turn → Type 0
 HaltsInPlace r v (Goes r' v') = Unit {0}
 HaltsInPlace r v (Calls r' v') = (r' ≡ advance r) × (v' ≡ v)
@@ -95,7 +95,7 @@ pub record End : Type 0 where
   pub left : ℕ
   pub halt : Halt
 
--- goes on behind one instruction
+-- goes on after one instruction
 abbrev pub after : Turn → ℕ → (Regs → View → End) → End
 after (Goes r v) n go = go r v
 after (Calls r v) n go = record { regs = r; view = v; left = n; halt = Call }

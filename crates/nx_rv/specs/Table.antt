@@ -1,5 +1,5 @@
 -- The instruction table: the word of each instruction, a row each, in the manual's order.
-use Rattle.std.specs.Prelude.{◌≡◌, ℕ, ◌%◌, ◌^◌, ◌<◌, ◌==◌, ◌⊎◌, Bool, true, false, if◌then◌else◌, Option, Some, None, ℤ, pos, negsuc}
+use Rattle.std.specs.Prelude.{◌≡◌, ℕ, ◌*◌, ◌/◌, ◌%◌, ◌^◌, ◌<◌, ◌==◌, ◌⊎◌, Bool, true, false, if◌then◌else◌, Option, Some, None, ℤ, pos, negsuc}
 use Rattle.std.specs.Int.{w32, cast_unsigned}
 use Rattle.nx_base.specs.declared.kinds.AluOp.{AluOp}
 use Rattle.nx_base.specs.declared.kinds.AluOp.TheVariants as op
@@ -129,20 +129,39 @@ op_imm_word o rd rs1 imm =
     if is_shift o then pack 0x13 rd (op_funct3 o) rs1 (low_bits 32 imm) (op_funct7 o)
     else pack_i 0x13 rd (op_funct3 o) rs1 (low_bits 4096 imm)
 
--- the word of an instruction
+-- the word of an instruction whose fields are in range
+unfoldable pub table_word : Inst → ℕ
+table_word (Lui rd imm) = pack_u 0x37 rd imm
+table_word (Auipc rd imm) = pack_u 0x17 rd imm
+table_word (Jal rd offset) = pack_j 0x6F rd (low_bits 2097152 offset)
+table_word (Jalr rd rs1 imm) = pack_i 0x67 rd 0 rs1 (low_bits 4096 imm)
+table_word (Branch c rs1 rs2 offset) = pack_b 0x63 (branch_funct3 c) rs1 rs2 (low_bits 8192 offset)
+table_word (Load width signed rd rs1 imm) = pack_i 0x03 rd (load_funct3 width signed) rs1 (low_bits 4096 imm)
+table_word (Store width rs1 rs2 imm) = pack_s 0x23 (store_funct3 width) rs1 rs2 (low_bits 4096 imm)
+table_word (OpImm o rd rs1 imm) = op_imm_word o rd rs1 imm
+table_word (Op o rd rs1 rs2) = pack 0x33 rd (op_funct3 o) rs1 rs2 (op_funct7 o)
+table_word (Fence rd rs1 imm) = pack_i 0x0F rd 0 rs1 (low_bits 4096 imm)
+table_word Ecall = 0x00000073
+table_word Ebreak = 0x00100073
+
+-- an instruction whose registers have five bits, and whose immediate of format U has its lowest 12 bits 0
+unfoldable pub masked : Inst → Inst
+masked (Lui rd imm) = Lui (rd % 32) (imm / 4096 * 4096)
+masked (Auipc rd imm) = Auipc (rd % 32) (imm / 4096 * 4096)
+masked (Jal rd offset) = Jal (rd % 32) offset
+masked (Jalr rd rs1 imm) = Jalr (rd % 32) (rs1 % 32) imm
+masked (Branch c rs1 rs2 offset) = Branch c (rs1 % 32) (rs2 % 32) offset
+masked (Load width signed rd rs1 imm) = Load width signed (rd % 32) (rs1 % 32) imm
+masked (Store width rs1 rs2 imm) = Store width (rs1 % 32) (rs2 % 32) imm
+masked (OpImm o rd rs1 imm) = OpImm o (rd % 32) (rs1 % 32) imm
+masked (Op o rd rs1 rs2) = Op o (rd % 32) (rs1 % 32) (rs2 % 32)
+masked (Fence rd rs1 imm) = Fence (rd % 32) (rs1 % 32) imm
+masked Ecall = Ecall
+masked Ebreak = Ebreak
+
+-- the word of an instruction, of whose fields only the bits of its format count
 unfoldable pub encode_of : Inst → ℕ
-encode_of (Lui rd imm) = pack_u 0x37 rd imm
-encode_of (Auipc rd imm) = pack_u 0x17 rd imm
-encode_of (Jal rd offset) = pack_j 0x6F rd (low_bits 2097152 offset)
-encode_of (Jalr rd rs1 imm) = pack_i 0x67 rd 0 rs1 (low_bits 4096 imm)
-encode_of (Branch c rs1 rs2 offset) = pack_b 0x63 (branch_funct3 c) rs1 rs2 (low_bits 8192 offset)
-encode_of (Load width signed rd rs1 imm) = pack_i 0x03 rd (load_funct3 width signed) rs1 (low_bits 4096 imm)
-encode_of (Store width rs1 rs2 imm) = pack_s 0x23 (store_funct3 width) rs1 rs2 (low_bits 4096 imm)
-encode_of (OpImm o rd rs1 imm) = op_imm_word o rd rs1 imm
-encode_of (Op o rd rs1 rs2) = pack 0x33 rd (op_funct3 o) rs1 rs2 (op_funct7 o)
-encode_of (Fence rd rs1 imm) = pack_i 0x0F rd 0 rs1 (low_bits 4096 imm)
-encode_of Ecall = 0x00000073
-encode_of Ebreak = 0x00100073
+encode_of i = table_word (masked i)
 
 -- the instruction of a word, if a row matches
 unfoldable pub decode_of : ℕ → Option Inst

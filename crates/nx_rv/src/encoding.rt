@@ -1,4 +1,5 @@
 ghost use Rattle.std.specs.Prelude.{◌≡◌, ◌<◌};
+ghost use Rattle.nx_rv.specs.Formats.{low_bits};
 ghost use Rattle.nx_rv.specs.Codes.{branch_funct3, load_funct3, store_funct3, op_funct3, op_funct7, is_shift};
 ghost use Rattle.nx_rv.specs.Table.{Row, IsInRange, FitsOpImm, encode_of, op_imm_word};
 
@@ -6,27 +7,26 @@ use crate::fields::{pack_b, pack_i, pack_j, pack_r, pack_s, pack_u};
 use crate::inst::Inst;
 use nx_base::{AluOp, Cond};
 
-/// The word of an instruction whose fields are in range.
+/// The word of an instruction. Of each field only the bits that its format has count. Where the
+/// fields are in range, the word decodes to this instruction.
 #[tactic(auto, using(crate::proofs::Rows::encoded_row))]
 pub fn encode(inst: &Inst) -> u32
-    requires { IsInRange inst.now }
     ensures table { result ≡ encode_of inst.now }
-    ensures row { Row result inst.now }
+    ensures row { IsInRange inst.now → Row result inst.now }
 {
     word_of(inst)
 }
 
 // The table, read from instructions to words.
-#[tactic(auto, unfolding(crate::specs::Table::encode_of, crate::specs::Formats::low_bits))]
+#[tactic(auto, unfolding(crate::specs::Table::encode_of, crate::specs::Table::masked, crate::specs::Table::table_word))]
 fn word_of(inst: &Inst) -> u32
-    requires { IsInRange inst.now }
     ensures { result ≡ encode_of inst.now }
 {
     match *inst {
-        Inst::Lui { rd, imm } => pack_u(0x37, rd, imm),
-        Inst::Auipc { rd, imm } => pack_u(0x17, rd, imm),
-        Inst::Jal { rd, offset } => pack_j(0x6F, rd, offset.cast_unsigned() % 2097152),
-        Inst::Jalr { rd, rs1, imm } => pack_i(0x67, rd, 0, rs1, imm.cast_unsigned() % 4096),
+        Inst::Lui { rd, imm } => pack_u(0x37, rd % 32, imm / 4096 * 4096),
+        Inst::Auipc { rd, imm } => pack_u(0x17, rd % 32, imm / 4096 * 4096),
+        Inst::Jal { rd, offset } => pack_j(0x6F, rd % 32, low_bits(2097152, offset)),
+        Inst::Jalr { rd, rs1, imm } => pack_i(0x67, rd % 32, 0, rs1 % 32, low_bits(4096, imm)),
         Inst::Branch {
             cond,
             rs1,
@@ -36,9 +36,9 @@ fn word_of(inst: &Inst) -> u32
             pack_b(
                 0x63,
                 branch_funct3(cond),
-                rs1,
-                rs2,
-                offset.cast_unsigned() % 8192,
+                rs1 % 32,
+                rs2 % 32,
+                low_bits(8192, offset),
             )
         }
         Inst::Load {
@@ -50,10 +50,10 @@ fn word_of(inst: &Inst) -> u32
         } => {
             pack_i(
                 0x03,
-                rd,
+                rd % 32,
                 load_funct3(width, signed),
-                rs1,
-                imm.cast_unsigned() % 4096,
+                rs1 % 32,
+                low_bits(4096, imm),
             )
         }
         Inst::Store {
@@ -65,33 +65,57 @@ fn word_of(inst: &Inst) -> u32
             pack_s(
                 0x23,
                 store_funct3(width),
-                rs1,
-                rs2,
-                imm.cast_unsigned() % 4096,
+                rs1 % 32,
+                rs2 % 32,
+                low_bits(4096, imm),
             )
         }
-        Inst::OpImm { op, rd, rs1, imm } => op_imm_word(op, rd, rs1, imm),
+        Inst::OpImm { op, rd, rs1, imm } => op_imm_word(op, rd % 32, rs1 % 32, imm),
         Inst::Op { op, rd, rs1, rs2 } => {
-            pack_r(0x33, rd, op_funct3(op), rs1, rs2, op_funct7(op))
+            pack_r(
+                0x33,
+                rd % 32,
+                op_funct3(op),
+                rs1 % 32,
+                rs2 % 32,
+                op_funct7(op),
+            )
         }
-        Inst::Fence { rd, rs1, imm } => pack_i(0x0F, rd, 0, rs1, imm.cast_unsigned() % 4096),
+        Inst::Fence { rd, rs1, imm } => pack_i(0x0F, rd % 32, 0, rs1 % 32, low_bits(4096, imm)),
         Inst::Ecall => 0x00000073,
         Inst::Ebreak => 0x00100073,
     }
 }
 
-#[tactic(auto, unfolding(crate::specs::Table::op_imm_word, crate::specs::Formats::low_bits))]
+// An operation with an immediate; a shift has five bits of it.
+#[tactic(auto, unfolding(crate::specs::Table::op_imm_word))]
 fn op_imm_word(op: AluOp, rd: u8, rs1: u8, imm: i32) -> u32
     requires rd_fits { rd < 32 }
     requires rs1_fits { rs1 < 32 }
     ensures { result ≡ op_imm_word op rd rs1 imm }
 {
-    let n = imm.cast_unsigned();
     if is_shift(op) {
-        pack_r(0x13, rd, op_funct3(op), rs1, (n % 32) as u8, op_funct7(op))
+        pack_r(
+            0x13,
+            rd,
+            op_funct3(op),
+            rs1,
+            low_bits(32, imm) as u8,
+            op_funct7(op),
+        )
     } else {
-        pack_i(0x13, rd, op_funct3(op), rs1, n % 4096)
+        pack_i(0x13, rd, op_funct3(op), rs1, low_bits(4096, imm))
     }
+}
+
+// The number's 32 bits modulo a power of two: its low bits.
+#[tactic(auto, unfolding(crate::specs::Formats::low_bits))]
+fn low_bits(modulus: u32, number: i32) -> u32
+    requires { 0 < modulus }
+    ensures value { result ≡ low_bits modulus number }
+    ensures small { result < modulus }
+{
+    number.cast_unsigned() % modulus
 }
 
 fn branch_funct3(cond: Cond) -> u8

@@ -22,7 +22,7 @@ pub fn the_table_is_one_to_one()
 {}
 
 /// A law: an instruction that traps leaves the registers, the pc and the view as they were, and so
-/// does a call, but that the pc is behind it.
+/// does a call, except that the pc is then at the next instruction.
 pub fn an_instruction_halts_in_place()
     ensures { (r : Regs) (v : View) → HaltsInPlace r v (turn r v) }
 {}

@@ -152,3 +152,29 @@ fn words_of_no_row(rt: HostRuntime) {
         assert_eq!(rt; decode(word), None, "at {word}");
     }
 }
+
+// Of a field that is out of range the bits of its format count.
+#[test]
+fn fields_out_of_range_are_cut(rt: HostRuntime) {
+    let rows = [
+        (op(AluOp::Add, 33, 63, 66), op(AluOp::Add, 1, 31, 2)),
+        (
+            op_imm(AluOp::Add, 0, 0, 4096 + 5),
+            op_imm(AluOp::Add, 0, 0, 5),
+        ),
+        (branch(Cond::Eq, 0, 0, 7), branch(Cond::Eq, 0, 0, 6)),
+        (
+            Inst::Lui {
+                rd: 255,
+                imm: 0x12345FFF,
+            },
+            Inst::Lui {
+                rd: 31,
+                imm: 0x12345000,
+            },
+        ),
+    ];
+    for (given, cut) in rows {
+        assert_eq!(rt; encode(&given), encode(&cut));
+    }
+}

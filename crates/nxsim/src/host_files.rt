@@ -1,6 +1,6 @@
 // The trusted edge: the files of the host.
 ghost use Rattle.std.specs.Prelude.{None, ◌≡◌, ◌+◌, ◌≤◌, length, OnOk, IfOk, IfSome};
-ghost use Rattle.nx_outside.specs.Outside.{Asks, Reads, RefusesLong, FailedByCause, longest};
+ghost use Rattle.nx_outside.specs.Outside.{Asks, HandsOut, RefusesLong, FailedByCause, longest};
 ghost use Rattle.nx_outside.specs.Fakes.{read_faults};
 ghost use Rattle.nxsim.specs.Host.{Gives};
 
@@ -34,7 +34,7 @@ impl<R: rt::Files> Files for HostFiles<'_, R> {
 
     fn read(&mut self, name: &str, into: &mut Vec<u8>) -> Result<(), FileStop>
         ensures asks { Asks result None None name.now }
-        ensures reads { Reads result None name.now into.new.items }
+        ensures reads { HandsOut result None name.now into.new.items }
         ensures short { OnOk result (length into.new.items ≤ longest) }
         ensures long { RefusesLong result None name.now }
         ensures cause { FailedByCause self.old.failed self.new.failed result }
