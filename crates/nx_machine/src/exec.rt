@@ -9,15 +9,18 @@ ghost use Rattle.nx_space.specs.Lawful.{OnlyEntered};
 ghost use Rattle.nx_machine.specs.Outcome.{turn_of};
 
 use nx_alu::{alu, taken};
-use nx_base::Regs;
+use nx_base::{Regs, causes};
 use nx_rv::{Inst, decode};
 use nx_space::{Space, fetch_told, load_told, store_told};
 
-// What one instruction leads to.
+/// What one instruction leads to.
 #[derive(Clone, Copy, Debug)]
 pub enum Step {
+    /// The next one.
     Goes,
+    /// A call; pc stands after the `ecall`.
     Calls,
+    /// A trap with this cause; pc stands at the instruction.
     Traps(u8),
 }
 
@@ -37,14 +40,14 @@ fn advance(regs: &mut Regs)
     regs.pc = regs.pc.wrapping_add(4);
 }
 
-// Jumps, and keeps the address behind the jump.
+// Jumps, and keeps the address after the jump.
 #[tactic(auto, unfolding(nx_rv::specs::Execution::linked, nx_rv::specs::Execution::jump))]
 fn link(regs: &mut Regs, rd: u8, to: u32) -> Step
     requires { rd < 32 }
     ensures { (v : View) → turn_of result regs.new v ≡ linked rd to regs.old v }
 {
     if to % 4 != 0 {
-        return Step::Traps(0);
+        return Step::Traps(causes::FETCH_MISALIGNED);
     }
     regs.set(rd, regs.pc.wrapping_add(4));
     regs.pc = to;
@@ -61,7 +64,7 @@ fn branch(regs: &mut Regs, taken: bool, target: u32) -> Step
         return Step::Goes;
     }
     if target % 4 != 0 {
-        return Step::Traps(0);
+        return Step::Traps(causes::FETCH_MISALIGNED);
     }
     regs.pc = target;
     Step::Goes
@@ -93,7 +96,7 @@ fn load<S: Space>(width: u8, signed: bool, rd: u8, at: u32, regs: &mut Regs, spa
     ensures only { OnlyEntered (S.world space.old) (S.world space.new) }
 {
     if at % width as u32 != 0 {
-        return Step::Traps(4);
+        return Step::Traps(causes::LOAD_MISALIGNED);
     }
     match load_told(space, at, width) {
         Ok(n) => {
@@ -116,7 +119,7 @@ fn store<S: Space>(width: u8, at: u32, value: u32, regs: &mut Regs, space: &mut 
     ensures only { OnlyEntered (S.world space.old) (S.world space.new) }
 {
     if at % width as u32 != 0 {
-        return Step::Traps(6);
+        return Step::Traps(causes::STORE_MISALIGNED);
     }
     match store_told(space, at, width, value) {
         Ok(()) => {
@@ -181,13 +184,13 @@ fn exec<S: Space>(inst: Inst, regs: &mut Regs, space: &mut S) -> Step
             advance(regs);
             return Step::Calls;
         }
-        Inst::Ebreak => return Step::Traps(3),
+        Inst::Ebreak => return Step::Traps(causes::BREAKPOINT),
     }
     advance(regs);
     Step::Goes
 }
 
-// Makes the instruction at the pc.
+/// Makes the instruction at the pc.
 #[tactic(auto, unfolding(nx_rv::specs::Execution::turn, nx_rv::specs::Execution::fetched, nx_rv::specs::Execution::decoded), using(crate::proofs::Only::only_same))]
 pub fn make_step<S: Space>(regs: &mut Regs, space: &mut S) -> Step
     requires { IsEntered (S.world space.old) }
@@ -195,12 +198,12 @@ pub fn make_step<S: Space>(regs: &mut Regs, space: &mut S) -> Step
     ensures only { OnlyEntered (S.world space.old) (S.world space.new) }
 {
     if regs.pc % 4 != 0 {
-        return Step::Traps(0);
+        return Step::Traps(causes::FETCH_MISALIGNED);
     }
     match fetch_told(space, regs.pc) {
         Ok(word) => match decode(word) {
             Some(inst) => exec(inst, regs, space),
-            None => Step::Traps(2),
+            None => Step::Traps(causes::ILLEGAL_INSTRUCTION),
         },
         Err(cause) => Step::Traps(cause),
     }

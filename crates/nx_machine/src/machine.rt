@@ -12,11 +12,13 @@ use std::marker::Model;
 /// Why a stretch of instructions ends.
 #[derive(Clone, Copy, Debug, PartialEq, Eq)]
 pub enum Stop {
-    /// An `ecall` was executed; pc stands behind it.
+    /// An `ecall` was executed; pc stands after it.
     Call,
-    /// An instruction trapped; pc stands at it. The cause is that of the RISC-V Privileged
-    /// Architecture 1.12, section 3.1.15.
-    Trap { cause: u8 },
+    /// An instruction trapped; pc stands at it.
+    Trap {
+        /// The exception code. RISC-V Privileged Architecture 1.12, section 3.1.15.
+        cause: u8,
+    },
     /// The count's limit is reached; the instruction at pc isn't made.
     Fuel,
 }
@@ -59,8 +61,8 @@ impl Machine {
         self.regs = regs;
     }
 
-    /// Makes instructions until a call, a trap or the count's limit, one tick for each, one that
-    /// traps included.
+    /// Makes instructions until a call, a trap or the count's limit. Each takes a tick, also one
+    /// that traps.
     pub fn run<S: Space>(&mut self, space: &mut S, count: &mut Count) -> Stop
         requires { IsEntered (S.world space.old) }
         ensures limit { count.new.limit ≡ count.old.limit }
