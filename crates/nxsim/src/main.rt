@@ -2,6 +2,7 @@
 #![tactic(auto)]
 
 mod host_files;
+mod host_reader;
 mod host_sink;
 #[cfg(test)]
 mod tests;
@@ -15,7 +16,7 @@ use std::{env, io};
 
 const NO_MEMORY: u8 = 12;
 
-// The words behind the program's name.
+// The words after the program's name.
 fn words_of(
     rt: &(impl std::rt::Env + AllocGlobal),
     alloc: Global,

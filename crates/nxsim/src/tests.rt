@@ -1,4 +1,5 @@
 use crate::host_files::{HostFiles, read_all};
+use crate::host_reader::HostReader;
 use crate::host_sink::HostSink;
 use nx_outside::{FileStop, Files, LONGEST, Sink};
 use std::io;
@@ -101,7 +102,8 @@ fn files_are_read_to_their_end(rt: HostRuntime) -> Result<(), Fail> {
     ];
     for (left, step, fails, wanted) in cases {
         let mut into = Vec::from_slice(rt.alloc(), b"before")?;
-        let read = read_all(&mut Source { left, step, fails }, &mut into);
+        let mut reader = HostReader::new(Source { left, step, fails });
+        let read = read_all(&mut reader, &mut into);
         assert_eq!(rt; read, wanted, "{left} bytes, {step} at a time");
         assert_eq!(rt;
             into.len(),

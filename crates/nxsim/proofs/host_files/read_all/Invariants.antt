@@ -1,4 +1,4 @@
-use Rattle.std.proofs.Common.{◌+◌, ◌-◌, ◌≤◌, length}
+use Rattle.std.proofs.Common.{◌≡◌, ◌+◌, ◌-◌, ◌≤◌, length}
 use Rattle.std.specs.Io.KnownBytes.{Consumes}
 use Rattle.nx_outside.specs.Outside.{longest}
 use Rattle.nxsim.proofs.host_files.read_all.Given as goal
@@ -7,7 +7,8 @@ use Rattle.nxsim.proofs.host_files.read_all.Given as goal
 abbrev pub invariant-loop-file : goal.invariant-loop-file
 invariant-loop-file g l = record {
   within : length l.into.items ≤ longest + 1;
-  consumed : Consumes (g.F.Read.remaining l.initial.file) (g.F.Read.remaining l.file) l.into.items;
+  consumed : Consumes (g.F.Read.remaining l.initial.file.inner) (g.F.Read.remaining l.file.inner) l.into.items;
+  faults : l.file.failed ≡ l.initial.file.failed;
 }
 
 abbrev pub decreases-loop-file : goal.decreases-loop-file

@@ -8,10 +8,10 @@ use Rattle.nxsim.proofs.host_sink.write_whole.Goals as goal
 -- the writer took n more bytes
 Takes-next : (old mid new : Option (List ℕ)) (rest all : List ℕ) (n : ℕ) → Takes old mid rest all → Appends mid new (take n rest) → Takes old new (take (length rest - n) (drop n rest)) all
 Takes-next old mid new rest all n h k = record {
-  front = h.front ++ take n rest;
-  splits = h.splits ∙ ap (λ l. h.front ++ l) (sym (take-append-drop n rest) ∙ ap (λ l. take n rest ++ l) (sym (take_rest rest n)))
-      ∙ sym (append_assoc h.front (take n rest) _);
-  appended = Appends-trans old mid new h.front (take n rest) h.appended k;
+  taken = h.taken ++ take n rest;
+  splits = h.splits ∙ ap (λ l. h.taken ++ l) (sym (take-append-drop n rest) ∙ ap (λ l. take n rest ++ l) (sym (take_rest rest n)))
+      ∙ sym (append_assoc h.taken (take n rest) _);
+  appended = Appends-trans old mid new h.taken (take n rest) h.appended k;
 }
 
 pub loop-rest-preserved : goal.loop-rest-preserved
