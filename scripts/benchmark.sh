@@ -5,8 +5,16 @@
 #
 #     scripts/benchmark.sh [COUNT]      COUNT instructions, 50000000 where none is given
 #
-# It wants `rt` and gcc in the path. It proves and builds nx_loop where that is not done yet.
+# It wants `rt`, and gcc of Debian's package gcc, in the path. It proves and builds nx_loop where
+# that is not done yet.
 set -eu
+
+# Says where a program that isn't installed is found, and ends.
+want() {
+    command -v "$1" >/dev/null || { echo "$1 is not installed: it is in $2" >&2; exit 1; }
+}
+want rt "the Rattle kit, and in no package of Debian"
+want gcc "Debian's package gcc"
 
 count=${1:-50000000}
 scripts=$(cd "$(dirname "$0")" && pwd)

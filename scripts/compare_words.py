@@ -1,8 +1,8 @@
 #!/usr/bin/env python3
 """Compares how crates/nx_words reads and writes instruction words with GNU binutils for RISC-V.
 
-Run it as `python3 scripts/compare_words.py`, from any folder. It wants `rt` in the path and the
-package binutils-riscv64-unknown-elf. It proves and builds nx_words where that is not done yet.
+Run it as `python3 scripts/compare_words.py`, from any folder. It wants `rt` in the path and
+Debian's package binutils-riscv64-unknown-elf. It proves and builds nx_words where that is not done yet.
 
 Random words, words of every opcode, funct3 and funct7, and assembled instructions with extreme and
 middle fields go through nx_words in one run. Of each word it wants the instruction and the fields
@@ -17,12 +17,13 @@ import itertools
 import os
 import random
 import re
+import shutil
 import struct
 import subprocess
 import sys
 import tempfile
 
-from gnu_assembler import PREFIX, assemble
+from gnu_assembler import assemble, tool
 
 PROGRAM = os.path.join(os.path.dirname(os.path.abspath(__file__)), "..", "crates", "nx_words")
 SEED = 20191213
@@ -57,7 +58,7 @@ BRANCHES = (-4096, -2732, -2048, -2, 0, 2, 1364, 2046, 2048, 4094)
 JUMPS = (-1048576, -699052, -4096, -2048, -2, 0, 2, 2046, 2048, 4096, 699050, 1048574)
 FENCE_BITS = "iorw"
 
-# objdump takes each word from a slot of its own, with NOPs behind it: an instruction of up to 22
+# objdump takes each word from a slot of its own, with NOPs after it: an instruction of up to 22
 # bytes, begun at either half of the word, ends there, and the next slot begins one again.
 SLOT = 32
 NOP = 0x00000013
@@ -79,9 +80,9 @@ def assembler_lines():
     lines = [("fence.tso", "fence rd=0 rs1=0 imm=-1997")]
     sets = ["".join(s) for n in range(1, 5) for s in itertools.combinations(FENCE_BITS, n)]
     bits = {s: sum(8 >> FENCE_BITS.index(c) for c in s) for s in sets}
-    for before, behind in itertools.product(sets, sets):
-        imm = 16 * bits[before] + bits[behind]
-        lines.append((f"fence {before},{behind}", listing("fence", {"rd": 0, "rs1": 0, "imm": imm})))
+    for before, after in itertools.product(sets, sets):
+        imm = 16 * bits[before] + bits[after]
+        lines.append((f"fence {before},{after}", listing("fence", {"rd": 0, "rs1": 0, "imm": imm})))
     for name, form in OPERANDS.items():
         keys = re.findall(r"{(\w+)}", form)
         values = dict(VALUES, target=JUMPS if name == "jal" else BRANCHES)
@@ -116,7 +117,7 @@ def disassemble(folder, words):
     with open(raw, "wb") as file:
         nops = struct.pack("<I", NOP) * (SLOT // 4 - 1)
         file.write(b"".join(struct.pack("<I", word) + nops for word in words))
-    command = [PREFIX + "objdump", "-D", "-z", "-b", "binary", "-m", "riscv:rv32"]
+    command = [tool("objdump"), "-D", "-z", "-b", "binary", "-m", "riscv:rv32"]
     command += ["-M", "no-aliases,numeric", raw]
     forms = {
         name: re.compile(re.sub(r"\\{(\w+)\\}", r"(?P<\1>[-\\w]+)", re.escape(form)))
@@ -185,6 +186,8 @@ def differences(title, words, wanted, printed):
 
 
 def main():
+    if shutil.which("rt") is None:
+        sys.exit("rt is not installed: it is in the Rattle kit, and in no package of Debian")
     with tempfile.TemporaryDirectory() as folder:
         lines = assembler_lines()
         assembled = assemble(folder, [line for line, _ in lines])

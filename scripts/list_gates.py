@@ -4,7 +4,7 @@
     python3 scripts/list_gates.py TABLE                     prints the listing
     python3 scripts/list_gates.py --compare CONFIG TABLE    compares it with `./nxsim gates`
 
-It wants the package binutils-riscv64-unknown-elf. Python's csv module reads the rows, whose
+It wants Debian's package binutils-riscv64-unknown-elf. Python's csv module reads the rows, whose
 conditions must be empty, and the GNU assembler makes the words of the proxies. Which rows `nxsim`
 refuses is not its subject: it stops at a row that it can't list, and lists others as they stand.
 With `--compare` it prints that nothing differs, or the first line that does and exits with 1.
