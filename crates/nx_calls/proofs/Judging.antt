@@ -1,6 +1,9 @@
 -- What a row says, from what its parts say.
-use Rattle.std.proofs.Common.{◌≡◌, ℕ, ◌+◌, ◌-◌, ◌≤◌, true, List, [], ◌∷◌, ◌++◌, length, map, take, drop, get_or, Bor, Option, None, Some, Result, Ok, Err, sym, ap, subst, arith}
+use Rattle.std.proofs.Common.{◌≡◌, ℕ, suc, ◌+◌, ◌-◌, ◌<◌, ◌≤◌, ◌∙◌, add-one, drop-cons, true, List, [], ◌∷◌, ◌++◌, length, map, take, drop, get_or, Bor, Option, None, Some, Result, Ok, Err, sym, ap, subst, arith}
 use Rattle.std.proofs.lemmas.Grind.{common_steps}
+use Rattle.std.proofs.lemmas.List.{map-append, length-map, length-take-le, take-append-drop, take_all}
+use Rattle.std.proofs.Math.Seq.{take-suc}
+
 use Rattle.nx_conditions.specs.declared.condition.Condition.{Condition}
 use Rattle.nx_conditions.specs.declared.meaning.Meaning.{Meaning}
 use Rattle.nx_conditions.specs.declared.stop.ConditionStop.{ConditionStop}
@@ -13,10 +16,9 @@ use Rattle.nx_calls.specs.declared.row.CallRow.{CallRow}
 use Rattle.nx_calls.specs.Rows.{Verdict, is_c_name, parameters, declared_row, IsWorth, Says, Taken}
 use Rattle.nx_calls.specs.declared.fault.CallsFault.{CallsFault}
 use Rattle.nx_calls.specs.declared.fault.CallsFault.TheVariants as fault
-use Rattle.nx_base.specs.TextBytes.{is_line_blank, trimmed_of}
-use Rattle.nx_calls.specs.Table.{Reads, End, Refused, Without, With, IsReadOf}
+use Rattle.nx_calls.specs.Table.{cells_of, HaveRows, False, True, Give, Fault, IsReadOf}
 use Rattle.csv.specs.Records.{Row, fields_of}
-use Rattle.nx_calls.specs.Answers.{IsVerdict, IsSaid, IsHeld, LeadsOn, fault_of}
+use Rattle.nx_calls.specs.Answers.{IsVerdict, IsSaid, IsHeld, TakesRecord, fault_of}
 
 -- a condition that was not read is none, or memory ran out
 pub held_not : (means : List ℕ → Option Meaning) (text : List ℕ) (e : ConditionStop) → ((a : Condition) → IsCondition text a → IsGiven {X = Condition} (Err e) a) → IsHeld means text (Err e)
@@ -46,42 +48,52 @@ four_fields d (a ∷ b ∷ c ∷ e ∷ xs) h =
     let whole : take (length (a ∷ b ∷ c ∷ e ∷ xs) - 4) xs ≡ xs = grind (arith, common_steps) in
     ap (λ rest. a.now ∷ b.now ∷ c.now ∷ e.now ∷ map (λ f. f.now) rest) whole
 
--- what the records from here on give is what all give
-abbrev pub Leads : (List ℕ → Option Meaning) → ℕ → List CallRow → List Row → List Row → Type 0
-Leads means n rows rest all = (r : Result (List CallRow) CallsFault) → Reads means n rows (map fields_of rest) r → Reads means 1 [] (map fields_of all) r
-
-pub leads_on : (means : List ℕ → Option Meaning) (n : ℕ) (old new : List CallRow) (row : Row) (behind rest all : List Row) → rest ≡ row ∷ behind →
-    LeadsOn means (fields_of row) old new (Ok tt) → Leads means n old rest all → Leads means (n + 1) new behind all
-leads_on means n old new row behind rest all e f h = λ r x.
-    let P : List Row → Type 0 = λ rows. Reads means n old (map fields_of rows) r in
-    h r (subst P (sym e) (f n (map fields_of behind) r x))
-
-pub leads_wrong : (means : List ℕ → Option Meaning) (n : ℕ) (old new : List CallRow) (row : Row) (behind rest all : List Row) (e : RowStop) → rest ≡ row ∷ behind →
-    LeadsOn means (fields_of row) old new (Err e) → Leads means n old rest all → IsReadOf means (map fields_of all) (Err (fault_of n e))
-leads_wrong means n old new row behind rest all stop.Memory e f h = tt
-leads_wrong means n old new row behind rest all (stop.Fault kind) e f h =
-    let P : List Row → Type 0 = λ rows. Reads means n old (map fields_of rows) (Err (fault.Text n kind)) in
-    h (Err (fault.Text n kind)) (subst P (sym e) (f n (map fields_of behind)))
-
-pub leads_end : (means : List ℕ → Option Meaning) (n : ℕ) (rows : List CallRow) (rest all : List Row) → rest ≡ [] → Leads means n rows rest all → Reads means 1 [] (map fields_of all) (Ok rows)
-leads_end means n rows rest all e h =
-    let P : List Row → Type 0 = λ records. Reads means n rows (map fields_of records) (Ok rows) in
-    h (Ok rows) (subst P (sym e) (End n rows))
-
 -- a record that is refused
-pub follows_wrong : (means : List ℕ → Option Meaning) (old seen new : List CallRow) (row : Row) (fields : List (List ℕ)) (e : RowStop) → seen ≡ old → fields ≡ map (trimmed_of is_line_blank) (fields_of row) →
-    IsSaid means seen fields (Err e) → LeadsOn means (fields_of row) old new (Err e)
-follows_wrong means old seen new row fields stop.Memory s f h = tt
-follows_wrong means old seen new row fields (stop.Fault kind) s f h = λ n records. Refused n old (fields_of row) records kind (subst (λ rows. Says means rows (map (trimmed_of is_line_blank) (fields_of row)) (Err kind)) s (subst (λ cells. Says means seen cells (Err kind)) f h))
+pub takes_wrong : (means : List ℕ → Option Meaning) (old seen new : List CallRow) (row : Row) (fields : List (List ℕ)) (e : RowStop) → seen ≡ old → fields ≡ cells_of (fields_of row) →
+    IsSaid means seen fields (Err e) → TakesRecord means (fields_of row) old new (Err e)
+takes_wrong means old seen new row fields stop.Memory s f h = tt
+takes_wrong means old seen new row fields (stop.Fault kind) s f h = subst (λ rows. Says means rows (cells_of (fields_of row)) (Err kind)) s (subst (λ cells. Says means seen cells (Err kind)) f h)
 
 -- a record whose condition doesn't hold
-pub follows_none : (means : List ℕ → Option Meaning) (old seen : List CallRow) (row : Row) (fields : List (List ℕ)) → seen ≡ old → fields ≡ map (trimmed_of is_line_blank) (fields_of row) →
-    IsSaid means seen fields (Ok None) → LeadsOn means (fields_of row) old old (Ok tt)
-follows_none means old seen row fields s f h = λ n records r more. Without n old (fields_of row) records r (subst (λ rows. Says means rows (map (trimmed_of is_line_blank) (fields_of row)) (Ok None)) s (subst (λ cells. Says means seen cells (Ok None)) f h)) more
+pub takes_none : (means : List ℕ → Option Meaning) (old seen : List CallRow) (row : Row) (fields : List (List ℕ)) → seen ≡ old → fields ≡ cells_of (fields_of row) →
+    IsSaid means seen fields (Ok None) → TakesRecord means (fields_of row) old old (Ok tt)
+takes_none means old seen row fields s f h = λ records have.
+    False records old (fields_of row) have (subst (λ rows. Says means rows (cells_of (fields_of row)) (Ok None)) s (subst (λ cells. Says means seen cells (Ok None)) f h))
 
 -- a record that gives a row
-pub follows_some : (means : List ℕ → Option Meaning) (old seen new : List CallRow) (row : Row) (fields : List (List ℕ)) (call : CallRow) → seen ≡ old → fields ≡ map (trimmed_of is_line_blank) (fields_of row) →
-    IsSaid means seen fields (Ok (Some call)) → new ≡ old ++ call ∷ [] → LeadsOn means (fields_of row) old new (Ok tt)
-follows_some means old seen new row fields call s f h e = λ n records r more.
-    With n old (fields_of row) records call r (subst (λ rows. Says means rows (map (trimmed_of is_line_blank) (fields_of row)) (Ok (Some call))) s (subst (λ cells. Says means seen cells (Ok (Some call))) f h))
-    (subst (λ rows. Reads means (n + 1) rows records r) e more)
+pub takes_some : (means : List ℕ → Option Meaning) (old seen new : List CallRow) (row : Row) (fields : List (List ℕ)) (call : CallRow) → seen ≡ old → fields ≡ cells_of (fields_of row) →
+    IsSaid means seen fields (Ok (Some call)) → new ≡ old ++ call ∷ [] → TakesRecord means (fields_of row) old new (Ok tt)
+takes_some means old seen new row fields call s f h e = λ records have.
+    subst (λ rows. HaveRows means (records ++ fields_of row ∷ []) rows) (sym e)
+    (True records old (fields_of row) call have (subst (λ rows. Says means rows (cells_of (fields_of row)) (Ok (Some call))) s (subst (λ cells. Says means seen cells (Ok (Some call))) f h)))
+
+-- the records up to a place, with the one there
+taken_more : (records : List Row) (i : ℕ) (row : Row) → i < length records → row ≡ get_or records i row → map fields_of (take (i + 1) records) ≡ map fields_of (take i records) ++ fields_of row ∷ []
+taken_more records i row l e =
+    ap (λ n. map fields_of (take n records)) (add-one i)
+    ∙ ap (map fields_of) (take-suc records i row l)
+    ∙ map-append fields_of (take i records) (get_or records i row ∷ [])
+    ∙ ap (λ (r : Row). map fields_of (take i records) ++ fields_of r ∷ []) (sym e)
+
+pub rows_more : (means : List ℕ → Option Meaning) (records : List Row) (i : ℕ) (row : Row) (old new : List CallRow) → i < length records → row ≡ get_or records i row →
+    TakesRecord means (fields_of row) old new (Ok tt) → HaveRows means (map fields_of (take i records)) old → HaveRows means (map fields_of (take (i + 1) records)) new
+rows_more means records i row old new l e t h = subst (λ all. HaveRows means all new) (sym (taken_more records i row l e)) (t (map fields_of (take i records)) h)
+
+-- a record that is refused is the first
+pub fault_first : (means : List ℕ → Option Meaning) (records : List Row) (i n : ℕ) (row : Row) (old new : List CallRow) (e : RowStop) → i < length records → row ≡ get_or records i row → n ≡ i + 1 →
+    TakesRecord means (fields_of row) old new (Err e) → HaveRows means (map fields_of (take i records)) old → IsReadOf means (map fields_of records) (Err (fault_of n e))
+fault_first means records i n row old new stop.Memory l e m t h = tt
+fault_first means records i n row old new (stop.Fault kind) l e m t h =
+    let before = map fields_of (take i records) in
+    let after = map fields_of (drop (suc i) records) in
+    let parts : before ++ fields_of row ∷ after ≡ map fields_of records =
+    ap (λ (r : Row). before ++ fields_of r ∷ after) e
+    ∙ sym (map-append fields_of (take i records) (get_or records i row ∷ drop (suc i) records))
+    ∙ ap (λ rest. map fields_of (take i records ++ rest)) (sym (drop-cons records i row l))
+    ∙ ap (map fields_of) (take-append-drop i records) in
+    let place : length before + 1 ≡ n = ap (λ k. k + 1) (length-map (take i records) fields_of ∙ length-take-le i records (omega (arith, l))) ∙ sym m in
+    subst (λ all. Give means all (Err (fault.Text n kind))) parts (subst (λ k. Give means (before ++ fields_of row ∷ after) (Err (fault.Text k kind))) place (Fault before after (fields_of row) old kind h t))
+
+-- where all records are taken, the rows are theirs
+pub rows_all : (means : List ℕ → Option Meaning) (records : List Row) (i : ℕ) (rows : List CallRow) → length records ≤ i → HaveRows means (map fields_of (take i records)) rows → HaveRows means (map fields_of records) rows
+rows_all means records i rows l h = subst (λ all. HaveRows means (map fields_of all) rows) (take_all i records l) h

@@ -12,14 +12,14 @@ use Rattle.nx_conditions.specs.Tokens.{after_blanks, AreTokens, End, More}
 use Rattle.nx_conditions.specs.Grammar.{IsWhole, IsCondition}
 use Rattle.nx_conditions.specs.Value.{holds}
 use Rattle.nx_conditions.proofs.Complete.{condition_complete}
-use Rattle.nx_base.specs.TextBytes.{is_line_blank, trimmed_of}
 use Rattle.nx_calls.specs.declared.fault.CallsKind.{CallsKind}
 use Rattle.nx_calls.specs.declared.fault.CallsFault.{CallsFault}
 use Rattle.nx_calls.specs.declared.fault.CallsFault.TheVariants as fault
 use Rattle.nx_calls.specs.declared.row.CallRow.{CallRow}
 use Rattle.nx_calls.specs.Rows.{Verdict, IsWorth, IsNoCondition, Says, FewerFields, NoName, NoCondition, Left, Taken}
-use Rattle.nx_calls.specs.Table.{Reads, Refused, Without, With, IsTable, IsRead, IsGiven}
-use Rattle.nx_calls.specs.Table as table
+use Rattle.nx_calls.specs.Table.{cells_of, IsTable, IsRead, IsGiven}
+use Rattle.nx_calls.proofs.RecordByRecord.{ReadsFrom, Refused, Without, With, reads_given}
+use Rattle.nx_calls.proofs.RecordByRecord as reading
 
 read_same : (p q : Read) → Some p ≡ Some q → p ≡ q
 read_same p q e = cc
@@ -120,25 +120,26 @@ abbrev Table : Type 0
 Table = Result (List CallRow) CallsFault
 
 -- records give one table
-one_reading : (means : List ℕ → Option Meaning) (n : ℕ) (rows : List CallRow) (records : List (List (List ℕ))) (r q : Table) → Reads means n rows records r → Reads means n rows records q → r ≡ q
-one_reading means n rows records r q (table.End m old) (table.End m' old') = refl
+one_reading : (means : List ℕ → Option Meaning) (n : ℕ) (rows : List CallRow) (records : List (List (List ℕ))) (r q : Table) → ReadsFrom means n rows records r → ReadsFrom means n rows records q → r ≡ q
+one_reading means n rows records r q (reading.End m old) (reading.End m' old') = refl
 one_reading means n rows records r q (Refused m old fields rest kind s) (Refused m' old' fields' rest' kind' s') =
-    ap (λ k. Err (fault.Text m k)) (kind_same kind kind' (one_verdict means old (map (trimmed_of is_line_blank) fields) (Err kind) (Err kind') s s'))
-one_reading means n rows records r q (Refused m old fields rest kind s) (Without m' old' fields' rest' r' s' x') = absurd (err_not_ok kind None (one_verdict means old (map (trimmed_of is_line_blank) fields) _ _ s s'))
-one_reading means n rows records r q (Refused m old fields rest kind s) (With m' old' fields' rest' row' r' s' x') = absurd (err_not_ok kind (Some row') (one_verdict means old (map (trimmed_of is_line_blank) fields) _ _ s s'))
-one_reading means n rows records r q (Without m old fields rest r' s x) (Refused m' old' fields' rest' kind' s') = absurd (err_not_ok kind' None (one_verdict means old (map (trimmed_of is_line_blank) fields) _ _ s' s))
+    ap (λ k. Err (fault.Text m k)) (kind_same kind kind' (one_verdict means old (cells_of fields) (Err kind) (Err kind') s s'))
+one_reading means n rows records r q (Refused m old fields rest kind s) (Without m' old' fields' rest' r' s' x') = absurd (err_not_ok kind None (one_verdict means old (cells_of fields) _ _ s s'))
+one_reading means n rows records r q (Refused m old fields rest kind s) (With m' old' fields' rest' row' r' s' x') = absurd (err_not_ok kind (Some row') (one_verdict means old (cells_of fields) _ _ s s'))
+one_reading means n rows records r q (Without m old fields rest r' s x) (Refused m' old' fields' rest' kind' s') = absurd (err_not_ok kind' None (one_verdict means old (cells_of fields) _ _ s' s))
 one_reading means n rows records r q (Without m old fields rest r' s x) (Without m' old' fields' rest' r'' s' x') = one_reading means (m + 1) old rest r' r'' x x'
-one_reading means n rows records r q (Without m old fields rest r' s x) (With m' old' fields' rest' row' r'' s' x') = absurd (none_not_some row' (one_verdict means old (map (trimmed_of is_line_blank) fields) _ _ s s'))
-one_reading means n rows records r q (With m old fields rest row r' s x) (Refused m' old' fields' rest' kind' s') = absurd (err_not_ok kind' (Some row) (one_verdict means old (map (trimmed_of is_line_blank) fields) _ _ s' s))
-one_reading means n rows records r q (With m old fields rest row r' s x) (Without m' old' fields' rest' r'' s' x') = absurd (none_not_some row (one_verdict means old (map (trimmed_of is_line_blank) fields) _ _ s' s))
+one_reading means n rows records r q (Without m old fields rest r' s x) (With m' old' fields' rest' row' r'' s' x') = absurd (none_not_some row' (one_verdict means old (cells_of fields) _ _ s s'))
+one_reading means n rows records r q (With m old fields rest row r' s x) (Refused m' old' fields' rest' kind' s') = absurd (err_not_ok kind' (Some row) (one_verdict means old (cells_of fields) _ _ s' s))
+one_reading means n rows records r q (With m old fields rest row r' s x) (Without m' old' fields' rest' r'' s' x') = absurd (none_not_some row (one_verdict means old (cells_of fields) _ _ s' s))
 one_reading means n rows records r q (With m old fields rest row r' s x) (With m' old' fields' rest' row' r'' s' x') =
-    let same : row' ≡ row = row_same row' row (one_verdict means old (map (trimmed_of is_line_blank) fields) _ _ s' s) in
-    one_reading means (m + 1) (old ++ row ∷ []) rest r' r'' x (subst (λ c. Reads means (m + 1) (old ++ c ∷ []) rest r'') same x')
+    let same : row' ≡ row = row_same row' row (one_verdict means old (cells_of fields) _ _ s' s) in
+    one_reading means (m + 1) (old ++ row ∷ []) rest r' r'' x (subst (λ c. ReadsFrom means (m + 1) (old ++ c ∷ []) rest r'') same x')
 
 -- a text gives one table
 pub one_table : (means : List ℕ → Option Meaning) (text : List ℕ) (r q : Table) → IsTable means text r → IsTable means text q → r ≡ q
 one_table means text r q a b =
-    one_reading means 1 [] a.records r q a.reads (subst (λ records. Reads means 1 [] records q) (sym (one_list _ _ _ a.records b.records a.are b.are)) b.reads)
+    let same : a.records ≡ b.records = one_list _ _ _ a.records b.records a.are b.are in
+    one_reading means 1 [] a.records r q (reads_given means a.records r a.give) (subst (λ records. ReadsFrom means 1 [] records q) (sym same) (reads_given means b.records q b.give))
 
 -- what was read is the only table of the text
 pub given_by : (means : List ℕ → Option Meaning) (text : List ℕ) (result r : Table) → IsRead means text result → IsTable means text r → IsGiven result r

@@ -24,7 +24,7 @@ use Rattle.nx_calls.specs.declared.row.CallRow.{CallRow}
 use Rattle.nx_calls.specs.declared.types.CallType.{CallType}
 use Rattle.nx_calls.specs.Kinds.{has_star, kinds_of}
 use Rattle.nx_calls.specs.Rows.{Verdict, HasKinds, IsRow, fits, fitting, parameters, kinds_in, numbered, typed, declared_row, Says, FewerFields, NoName, NoCondition, Left, Taken}
-use Rattle.nx_calls.specs.Table.{AreRows, Reads, End, Refused, Without, With}
+use Rattle.nx_calls.specs.Table.{AreRows, HaveRows, Empty, False, True}
 
 -- a row that may come after others
 pub record IsNext (rows : List CallRow) (row : CallRow) : Type 0 where
@@ -138,10 +138,8 @@ rows_on rows row p next =
 pub no_rows : AreRows []
 no_rows = record { few = omega arith; numbers = λ k d l. absurd (omega (arith, l)); fit = All-nil IsRow; names = λ i j d l m. absurd (omega (arith, m)) }
 
--- so it holds of every table's rows
-pub reads_rows : (means : List ℕ → Option Meaning) (n : ℕ) (rows : List CallRow) (records : List (List (List ℕ))) (r : Result (List CallRow) CallsFault) (out : List CallRow) → Reads means n rows records r → r ≡ Ok out → AreRows rows → AreRows out
-reads_rows means _ _ _ _ out (End n rows) e p = let q : rows ≡ out = cc in subst (λ rs. AreRows rs) q p
-reads_rows means _ _ _ _ out (Refused n rows fields records kind s) e p = absurd cc
-reads_rows means _ _ _ _ out (Without n rows fields records r s rest) e p = reads_rows means (n + 1) rows records r out rest e p
-reads_rows means _ _ _ _ out (With n rows fields records row r s rest) e p =
-    reads_rows means (n + 1) (rows ++ row ∷ []) records r out rest e (rows_on rows row p (said_next means rows _ _ row s refl))
+-- so it holds of the rows of all records
+pub rows_of_records : (means : List ℕ → Option Meaning) (records : List (List (List ℕ))) (rows : List CallRow) → HaveRows means records rows → AreRows rows
+rows_of_records means _ _ Empty = no_rows
+rows_of_records means _ _ (False records rows fields h s) = rows_of_records means records rows h
+rows_of_records means _ _ (True records rows fields row h s) = rows_on rows row (rows_of_records means records rows h) (said_next means rows _ _ row s refl)

@@ -1,5 +1,5 @@
 -- What the answers of the functions say.
-use Rattle.std.specs.Prelude.{◌≡◌, ℕ, ◌+◌, Bool, List, ◌∷◌, Result, Ok, Err, Option}
+use Rattle.std.specs.Prelude.{◌≡◌, ℕ, Bool, List, [], ◌∷◌, ◌++◌, Result, Ok, Err, Option}
 use Rattle.nx_conditions.specs.declared.meaning.Meaning.{Meaning}
 use Rattle.nx_conditions.specs.declared.stop.ConditionStop.{ConditionStop}
 use Rattle.nx_conditions.specs.declared.stop.ConditionStop.TheVariants as condition_stop
@@ -9,7 +9,7 @@ use Rattle.nx_calls.specs.declared.fault.RowStop.{RowStop}
 use Rattle.nx_calls.specs.declared.fault.RowStop.TheVariants as stop
 use Rattle.nx_calls.specs.declared.row.CallRow.{CallRow}
 use Rattle.nx_calls.specs.Rows.{Verdict, IsWorth, IsNoCondition, Says}
-use Rattle.nx_calls.specs.Table.{Reads}
+use Rattle.nx_calls.specs.Table.{cells_of, HaveRows}
 
 -- what a function returned is this verdict, unless memory ran out
 abbrev pub IsVerdict : Result (Option CallRow) RowStop → Verdict → Type 0
@@ -30,12 +30,10 @@ IsHeld means text (Err condition_stop.Bad) = IsNoCondition text
 IsHeld means text (Err condition_stop.Memory) = Unit {0}
 
 -- how a record leads from rows to rows, unless memory ran out
-abbrev pub LeadsOn : (List ℕ → Option Meaning) → List (List ℕ) → List CallRow → List CallRow → Result (Unit {0}) RowStop → Type 0
-LeadsOn means fields old new (Ok done) =
-    (n : ℕ) (records : List (List (List ℕ))) (r : Result (List CallRow) CallsFault) → Reads means (n + 1) new records r → Reads means n old (fields ∷ records) r
-LeadsOn means fields old new (Err stop.Memory) = Unit {0}
-LeadsOn means fields old new (Err (stop.Fault kind)) =
-    (n : ℕ) (records : List (List (List ℕ))) → Reads means n old (fields ∷ records) (Err (fault.Text n kind))
+abbrev pub TakesRecord : (List ℕ → Option Meaning) → List (List ℕ) → List CallRow → List CallRow → Result (Unit {0}) RowStop → Type 0
+TakesRecord means fields old new (Ok done) = (records : List (List (List ℕ))) → HaveRows means records old → HaveRows means (records ++ fields ∷ []) new
+TakesRecord means fields old new (Err stop.Memory) = Unit {0}
+TakesRecord means fields old new (Err (stop.Fault kind)) = Says means old (cells_of fields) (Err kind)
 
 -- the fault of the table at a record
 abbrev pub fault_of : ℕ → RowStop → CallsFault

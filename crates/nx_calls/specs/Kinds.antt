@@ -43,22 +43,27 @@ lone_kind t =
     else if has_star t.actual then None
     else Some Word
 
--- the kind of a type: whether it is the size of the buffer before it, and whether a size stands right behind it
-unfoldable pub kind_at : Bool → Bool → CallType → Option Kind
-kind_at behind sized t =
-    if behind then Some Len
-    else if sized && is_input t then Some In
-    else if sized && is_output t then Some Out
+-- bytes that a call reads or writes
+abbrev pub is_buffer : CallType → Bool
+is_buffer t = is_input t || is_output t
+
+-- the type beside a parameter passes a test, where there is one
+abbrev pub neighbour_is : (CallType → Bool) → Option CallType → Bool
+neighbour_is test None = false
+neighbour_is test (Some t) = test t
+
+-- the first of the types that follow
+abbrev pub first_of : List CallType → Option CallType
+first_of [] = None
+first_of (t ∷ types) = Some t
+
+-- the kind of a type by the types before and after it: a size after a buffer is its length, and a buffer has a size after it
+unfoldable pub kind_of : Option CallType → CallType → Option CallType → Option Kind
+kind_of before t after =
+    if neighbour_is is_buffer before && is_size t then Some Len
+    else if is_input t && neighbour_is is_size after then Some In
+    else if is_output t && neighbour_is is_size after then Some Out
     else lone_kind t
-
--- a size stands first
-abbrev pub begins_size : List CallType → Bool
-begins_size [] = false
-begins_size (t ∷ types) = is_size t
-
--- a buffer, whose size stands right behind it
-abbrev pub is_sized : CallType → List CallType → Bool
-is_sized t types = begins_size types && (is_input t || is_output t)
 
 -- a kind before others, where each is there
 abbrev pub kind_before : Option Kind → Option (List Kind) → Option (List Kind)
@@ -66,11 +71,11 @@ kind_before None kinds = None
 kind_before (Some kind) None = None
 kind_before (Some kind) (Some kinds) = Some (kind ∷ kinds)
 
--- the kinds of types, where each has one: whether the first is the size of a buffer before it
-abbrev pub kinds_from : Bool → List CallType → Option (List Kind)
-kinds_from behind [] = Some []
-kinds_from behind (t ∷ types) = kind_before (kind_at behind (begins_size types) t) (kinds_from (is_sized t types) types)
+-- the kinds of types that follow a type, or none, where each has one
+abbrev pub kinds_after : Option CallType → List CallType → Option (List Kind)
+kinds_after before [] = Some []
+kinds_after before (t ∷ types) = kind_before (kind_of before t (first_of types)) (kinds_after (Some t) types)
 
 -- the kinds of the types of a row, where each has one
 abbrev pub kinds_of : List CallType → Option (List Kind)
-kinds_of types = kinds_from false types
+kinds_of types = kinds_after None types

@@ -17,27 +17,35 @@ pub record AreRows (rows : List CallRow) : Type 0 where
   pub fit : All IsRow rows
   pub names : AllPairs (λ a b. a.name ≢ b.name) rows
 
--- what records give, of which the first has this number, behind these rows: all rows, or the first fault
-pub data Reads (means : List ℕ → Option Meaning) : ℕ → List CallRow → List (List (List ℕ)) → Result (List CallRow) CallsFault → Type 0 where
-  End : (n : ℕ) (rows : List CallRow) → Reads means n rows [] (Ok rows)
-  Refused : (n : ℕ) (rows : List CallRow) (fields : List (List ℕ)) (records : List (List (List ℕ))) (kind : CallsKind) →
-      Says means rows (map (trimmed_of is_line_blank) fields) (Err kind) → Reads means n rows (fields ∷ records) (Err (fault.Text n kind))
-  Without : (n : ℕ) (rows : List CallRow) (fields : List (List ℕ)) (records : List (List (List ℕ))) (r : Result (List CallRow) CallsFault) →
-      Says means rows (map (trimmed_of is_line_blank) fields) (Ok None) → Reads means (n + 1) rows records r → Reads means n rows (fields ∷ records) r
-  With : (n : ℕ) (rows : List CallRow) (fields : List (List ℕ)) (records : List (List (List ℕ))) (row : CallRow) (r : Result (List CallRow) CallsFault) →
-      Says means rows (map (trimmed_of is_line_blank) fields) (Ok (Some row)) → Reads means (n + 1) (rows ++ row ∷ []) records r → Reads means n rows (fields ∷ records) r
+-- a record's fields without the blanks at their ends
+abbrev pub cells_of : List (List ℕ) → List (List ℕ)
+cells_of fields = map (trimmed_of is_line_blank) fields
 
--- what a text gives: its records are those of its values between commas, without a byte order mark, and the first has the number 1
+-- records without a fault, and the rows of those whose condition is true, in their order
+pub data HaveRows (means : List ℕ → Option Meaning) : List (List (List ℕ)) → List CallRow → Type 0 where
+  Empty : HaveRows means [] []
+  False : (records : List (List (List ℕ))) (rows : List CallRow) (fields : List (List ℕ)) →
+      HaveRows means records rows → Says means rows (cells_of fields) (Ok None) → HaveRows means (records ++ fields ∷ []) rows
+  True : (records : List (List (List ℕ))) (rows : List CallRow) (fields : List (List ℕ)) (row : CallRow) →
+      HaveRows means records rows → Says means rows (cells_of fields) (Ok (Some row)) → HaveRows means (records ++ fields ∷ []) (rows ++ row ∷ [])
+
+-- what records give: their rows, or the first fault, at its record's place from 1
+pub data Give (means : List ℕ → Option Meaning) : List (List (List ℕ)) → Result (List CallRow) CallsFault → Type 0 where
+  Rows : (records : List (List (List ℕ))) (rows : List CallRow) → HaveRows means records rows → Give means records (Ok rows)
+  Fault : (before after : List (List (List ℕ))) (fields : List (List ℕ)) (rows : List CallRow) (kind : CallsKind) →
+      HaveRows means before rows → Says means rows (cells_of fields) (Err kind) → Give means (before ++ fields ∷ after) (Err (fault.Text (length before + 1) kind))
+
+-- what a text gives: its records are those of its values between commas, without a byte order mark
 pub record IsTable (means : List ℕ → Option Meaning) (text : List ℕ) (r : Result (List CallRow) CallsFault) : Type 0 where
   pub records : List (List (List ℕ))
   pub are : AreRecords default_config st.StartRecord (strip_bom text) records
-  pub reads : Reads means 1 [] records r
+  pub give : Give means records r
 
--- what was read behind these rows is what these records give, unless memory ran out
+-- what was read is what these records give, unless memory ran out
 abbrev pub IsReadOf : (List ℕ → Option Meaning) → List (List (List ℕ)) → Result (List CallRow) CallsFault → Type 0
-IsReadOf means records (Ok rows) = Reads means 1 [] records (Ok rows)
+IsReadOf means records (Ok rows) = Give means records (Ok rows)
 IsReadOf means records (Err fault.Memory) = Unit {0}
-IsReadOf means records (Err (fault.Text n kind)) = Reads means 1 [] records (Err (fault.Text n kind))
+IsReadOf means records (Err (fault.Text n kind)) = Give means records (Err (fault.Text n kind))
 
 -- what was read is what the text gives, unless memory ran out
 abbrev pub IsRead : (List ℕ → Option Meaning) → List ℕ → Result (List CallRow) CallsFault → Type 0

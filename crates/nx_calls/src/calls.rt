@@ -1,6 +1,6 @@
 ghost use Rattle.std.specs.Prelude.{◌≡◌, ◌+◌, ◌<◌, ◌≤◌, ◌^◌, [], length, map, IfOk};
 ghost use Rattle.csv.specs.Records.{fields_of};
-ghost use Rattle.nx_calls.specs.Answers.{LeadsOn, fault_of};
+ghost use Rattle.nx_calls.specs.Answers.{TakesRecord, fault_of};
 ghost use Rattle.nx_calls.specs.Table.{AreRows, IsRead, IsReadOf};
 
 use crate::fault::{CallsFault, RowStop};
@@ -47,7 +47,7 @@ fn take_record<M: Meanings>(
     row: &ByteRecord,
     meanings: &M,
 ) -> Result<(), RowStop>
-    ensures { LeadsOn (M.meaning meanings.now) (fields_of row.now) rows.old.items rows.new.items result }
+    ensures { TakesRecord (M.meaning meanings.now) (fields_of row.now) rows.old.items rows.new.items result }
 {
     let Ok(fields) = cells(alloc, row) else {
         return Err(RowStop::Memory);

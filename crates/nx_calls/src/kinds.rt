@@ -1,4 +1,5 @@
-ghost use Rattle.std.specs.Prelude.{◌≡◌, ◌==◌, ◌≤◌, length, None, Some, codes, option_map, false};
+ghost use Rattle.std.specs.Prelude.{◌≡◌, ◌==◌, ◌≤◌, length, None, Some, Option, codes, option_map, false};
+ghost use Rattle.nx_calls.specs.declared.types.CallType.{CallType};
 ghost use Rattle.std.specs.List.{list_any};
 ghost use Rattle.std.specs.Str.{bytes_eq};
 ghost use Rattle.nx_calls.specs.Kinds.{
@@ -10,9 +11,10 @@ ghost use Rattle.nx_calls.specs.Kinds.{
   is_number as is_number_type,
   is_pair as is_pair_type,
   lone_kind as lone_kind_of,
-  kind_at as kind_of_type_at,
-  begins_size as begins_size_type,
-  is_sized as is_sized_type,
+  is_buffer as is_buffer_type,
+  neighbour_is,
+  first_of,
+  kind_of as kind_of_type,
   kinds_of as kinds_of_types,
 };
 
@@ -91,24 +93,14 @@ fn lone_kind(t: &CallType) -> Option<Kind>
     Some(Kind::Word)
 }
 
-#[tactic(auto, unfolding(crate::specs::Kinds::kind_at))]
-fn kind_at(behind: bool, sized: bool, t: &CallType) -> Option<Kind>
-    ensures { result ≡ kind_of_type_at behind sized t.now }
+fn is_buffer(t: &CallType) -> bool
+    ensures { result ≡ is_buffer_type t.now }
 {
-    if behind {
-        return Some(Kind::Len);
-    }
-    if sized && is_input(t) {
-        return Some(Kind::In);
-    }
-    if sized && is_output(t) {
-        return Some(Kind::Out);
-    }
-    lone_kind(t)
+    is_input(t) || is_output(t)
 }
 
-fn begins_size(types: &[CallType]) -> bool
-    ensures { result ≡ begins_size_type types.now }
+fn is_sized(types: &[CallType]) -> bool
+    ensures { result ≡ neighbour_is is_size_type (first_of types.now) }
 {
     match types {
         [first, ..] => is_size(first),
@@ -116,10 +108,21 @@ fn begins_size(types: &[CallType]) -> bool
     }
 }
 
-fn is_sized(t: &CallType, behind: &[CallType]) -> bool
-    ensures { result ≡ is_sized_type t.now behind.now }
+/// The kind of a type: whether a buffer stands before it, and which types come after it.
+#[tactic(auto, unfolding(crate::specs::Kinds::kind_of))]
+fn kind_of(after_buffer: bool, t: &CallType, others: &[CallType]) -> Option<Kind>
+    ensures { (before : Option CallType) → after_buffer ≡ neighbour_is is_buffer_type before → result ≡ kind_of_type before t.now (first_of others.now) }
 {
-    begins_size(behind) && (is_input(t) || is_output(t))
+    if after_buffer && is_size(t) {
+        return Some(Kind::Len);
+    }
+    if is_input(t) && is_sized(others) {
+        return Some(Kind::In);
+    }
+    if is_output(t) && is_sized(others) {
+        return Some(Kind::Out);
+    }
+    lone_kind(t)
 }
 
 /// The kinds of the parameters of a row, where each type has one.
@@ -128,14 +131,14 @@ pub fn kinds_of(types: &[CallType]) -> Option<ArrayVec<Kind, 6>>
     ensures { option_map (λ kinds. kinds.items) result ≡ kinds_of_types types.now }
 {
     let mut kinds = ArrayVec::new();
-    let mut behind = false;
+    let mut after_buffer = false;
     let mut rest = types;
     while let [first, others @ ..] = rest {
-        match kind_at(behind, begins_size(others), first) {
+        match kind_of(after_buffer, first, others) {
             None => return None,
             Some(kind) => kinds.push(kind),
         }
-        behind = is_sized(first, others);
+        after_buffer = is_buffer(first);
         rest = others;
     }
     Some(kinds)
