@@ -27,9 +27,9 @@ put_next : (w : Window) (ws new : List Window) (a : ℕ) (xs : List ℕ) → hol
 unfolding put_in
 put_next w ws new a xs h p = rw (h, p)
 
-holds-put : (w : Window) (i : ℕ) (xs : List ℕ) (b m : ℕ) → holds (record w { bytes = put_bytes w.bytes i xs }) b m ≡ holds w b m
+holds-put : (w : Window) (i : ℕ) (xs : List ℕ) (b m : ℕ) → i + length xs ≤ length w.bytes → holds (record w { bytes = put_bytes w.bytes i xs }) b m ≡ holds w b m
 unfolding holds
-holds-put w i xs b m = ap (λ n. nat_le w.start b && nat_le (b + m) (w.start + n)) (length-put_bytes w.bytes i xs)
+holds-put w i xs b m h = ap (λ n. nat_le w.start b && nat_le (b + m) (w.start + n)) (length-put_bytes w.bytes i xs h)
 
 held_within : (w : Window) (a n : ℕ) → holds w a n ≡ true → (w.start ≤ a) × (a + n ≤ w.start + length w.bytes)
 unfolding holds
@@ -79,9 +79,9 @@ find_put_other may st (w ∷ ws) new a xs b m apart e = by_case (λ rest p. find
         let w' = record w { bytes = put_bytes w.bytes (a - w.start) xs } in
         let in_a = held_within w a (length xs) h in
         ap (λ l. find_bytes may l b m) n
-        ∙ find_head may w w' ws ws b m (holds-put w (a - w.start) xs b m) (st w _) (λ k.
+        ∙ find_head may w w' ws ws b m (holds-put w (a - w.start) xs b m (omega arith)) (st w _) (λ k.
         let in_b = held_within w b m k in
-        get_bytes-put_bytes_other w.bytes (a - w.start) xs (b - w.start) m (⊎_elim (λ l. inl (omega arith)) (λ l. inr (omega arith)) apart)) (λ _. refl)
+        get_bytes-put_bytes_other w.bytes (a - w.start) xs (b - w.start) m (omega arith) (⊎_elim (λ l. inl (omega arith)) (λ l. inr (omega arith)) apart)) (λ _. refl)
     by_case more (later rest h p n) =
         ap (λ l. find_bytes may l b m) n
         ∙ find_head may w w ws rest b m refl refl (λ _. refl) (λ _. more rest p)
@@ -104,7 +104,7 @@ find_put_same may st (w ∷ ws) new a xs ys e f = by_case (λ rest p q. find_put
         let w' = record w { bytes = put_bytes w.bytes (a - w.start) xs } in
         let in_a = held_within w a (length xs) h in
         ap (λ l. find_bytes may l a (length xs)) n
-        ∙ find_here may w' ws a (length xs) (holds-put w (a - w.start) xs a (length xs) ∙ h) (st w _ ∙ found_may may w ws a (length xs) ys h f)
+        ∙ find_here may w' ws a (length xs) (holds-put w (a - w.start) xs a (length xs) (omega arith) ∙ h) (st w _ ∙ found_may may w ws a (length xs) ys h f)
         ∙ ap Some (get_bytes-put_bytes w.bytes (a - w.start) xs (omega arith))
     by_case more (later rest h p n) =
         ap (λ l. find_bytes may l a (length xs)) n
@@ -119,9 +119,11 @@ put_again (w ∷ ws) new a xs b ys made e f = by_case (λ rest more p q. put_aga
   where
     by_case : ((rest more : List Window) → put_in ws a xs ≡ Some rest → put_in ws b ys ≡ Some more → (made' : List Window) × (put_in rest b ys ≡ Some made')) → Put w ws a xs new → Put w ws b ys made → (made' : List Window) × (put_in new b ys ≡ Some made')
     by_case next (here h p n) (here h' p' n') =
-        (_, ap (λ l. put_in l b ys) n ∙ put_here (record w { bytes = put_bytes w.bytes (a - w.start) xs }) ws b ys (holds-put w (a - w.start) xs b (length ys) ∙ h') p)
+        let in_a = held_within w a (length xs) h in
+        (_, ap (λ l. put_in l b ys) n ∙ put_here (record w { bytes = put_bytes w.bytes (a - w.start) xs }) ws b ys (holds-put w (a - w.start) xs b (length ys) (omega arith) ∙ h') p)
     by_case next (here h p n) (later more h' q n') =
-        (_, ap (λ l. put_in l b ys) n ∙ put_next (record w { bytes = put_bytes w.bytes (a - w.start) xs }) ws more b ys (holds-put w (a - w.start) xs b (length ys) ∙ h') q)
+        let in_a = held_within w a (length xs) h in
+        (_, ap (λ l. put_in l b ys) n ∙ put_next (record w { bytes = put_bytes w.bytes (a - w.start) xs }) ws more b ys (holds-put w (a - w.start) xs b (length ys) (omega arith) ∙ h') q)
     by_case next (later rest h q n) (here h' p' n') =
         (_, ap (λ l. put_in l b ys) n ∙ put_here w rest b ys h' p')
     by_case next (later rest h q n) (later more h' q' n') =

@@ -3,6 +3,7 @@ pub mod ByteLists
 pub mod Counted
 pub mod CursorAt
 pub mod ErrorNumbers
+pub mod Good
 pub mod KernelCalls
 pub mod Replies
 pub mod Registers

@@ -2,12 +2,13 @@
 use Rattle.std.specs.Prelude.{ℕ, ◌+◌, ◌-◌, ◌≤◌, ◌⊎◌, Bool, ◌&&◌, nat_le, if◌then◌else◌, List, [], ◌∷◌, length, Option, Some, None, Result, Ok, Err}
 use Rattle.nx_base.specs.ByteLists.{get_bytes, put_bytes, from_le, to_le}
 
--- bytes from an address on, and what may be done with them
+-- bytes from an address on, what may be done with them, and whether they are a region's, which groups share
 pub record Window : Type 0 where
   pub start : ℕ
   pub reads : Bool
   pub writes : Bool
   pub runs : Bool
+  pub region : Bool
   pub bytes : List ℕ
 
 -- a view is its windows; where it is paged, what it refuses is a page fault

@@ -12,7 +12,6 @@ pub fn get_le32(bytes: &[u8], at: usize) -> u32
 }
 
 /// Puts a word into the four bytes at a place, the lowest first, and changes no other byte.
-#[tactic(auto, unfolding(crate::specs::ByteLists::put_bytes, crate::specs::ByteLists::to_le))]
 pub fn put_le32(bytes: &mut [u8], at: usize, value: u32)
     requires { at + 4 ≤ length bytes.old }
     ensures { bytes.new ≡ put_bytes bytes.old at (to_le 4 value) }

@@ -1,5 +1,5 @@
 ghost use Rattle.std.specs.Prelude.{◌≡◌, ◌+◌, ◌*◌, ◌≤◌, ◌^◌, ◌<◌, IfOk, length, replicate};
-ghost use Rattle.nx_base.specs.ByteLists.{get_bytes, put_bytes, from_le, to_le};
+ghost use Rattle.nx_base.specs.ByteLists.{get_bytes, put_bytes, from_le, to_le, AreBytes};
 ghost use Rattle.nx_ram.specs.Widths.{IsWidth};
 
 use nx_base::{get_le32, put_le32};
@@ -14,12 +14,13 @@ pub struct Ram {
 
 impl Model for Ram {
     ghost use Rattle.std.specs.Prelude.{List, ℕ, ◌<◌, ◌^◌, length};
+    ghost use Rattle.nx_base.specs.ByteLists.{AreBytes};
 
     ghost Value = { List ℕ };
 
     ghost view = { λ r. r.bytes.items };
 
-    ghost invariant = { λ r. length r.bytes.items < 2 ^ 32 };
+    ghost invariant = { λ r. (length r.bytes.items < 2 ^ 32) × AreBytes r.bytes.items };
 }
 
 impl Ram {
@@ -35,6 +36,7 @@ impl Ram {
     pub fn len(&self) -> u32
         ensures value { result ≡ length self.now }
         ensures small { result < 2 ^ 32 }
+        ensures bytes { AreBytes self.now }
     {
         self.bytes.len() as u32
     }
@@ -81,7 +83,6 @@ impl Ram {
     }
 
     /// Writes the byte at a place, and no other.
-    #[tactic(auto, unfolding(nx_base::specs::ByteLists::put_bytes, nx_base::specs::ByteLists::to_le), using(crate::proofs::Puts::length_put))]
     pub fn store8(&mut self, at: u32, value: u8)
         requires { at + 1 ≤ length self.old }
         ensures bytes { self.new ≡ put_bytes self.old at (to_le 1 value) }
@@ -91,7 +92,6 @@ impl Ram {
     }
 
     /// Writes the two bytes at a place, the lowest first, and no other.
-    #[tactic(auto, unfolding(nx_base::specs::ByteLists::put_bytes, nx_base::specs::ByteLists::to_le), using(crate::proofs::Puts::length_put))]
     pub fn store16(&mut self, at: u32, value: u16)
         requires { at + 2 ≤ length self.old }
         ensures bytes { self.new ≡ put_bytes self.old at (to_le 2 value) }
@@ -103,7 +103,7 @@ impl Ram {
     }
 
     /// Writes the four bytes at a place, the lowest first, and no other.
-    #[tactic(auto, using(crate::proofs::Puts::length_put))]
+    #[tactic(auto, using(crate::proofs::Puts::length_number))]
     pub fn store32(&mut self, at: u32, value: u32)
         requires { at + 4 ≤ length self.old }
         ensures bytes { self.new ≡ put_bytes self.old at (to_le 4 value) }
@@ -131,6 +131,7 @@ impl Ram {
         requires { at + length bytes.now ≤ length self.old }
         ensures bytes { self.new ≡ put_bytes self.old at bytes.now }
         ensures long { length self.new ≡ length self.old }
+        ensures small { AreBytes self.new }
     {
         let at = at as usize;
         for i in 0..bytes.len() {
