@@ -11,7 +11,7 @@ ghost use Rattle.nx_machine.specs.Outcome.{turn_of};
 use nx_alu::{alu, taken};
 use nx_base::{Regs, causes};
 use nx_rv::{Inst, decode};
-use nx_space::{Space, fetch_told, load_told, store_told};
+use nx_space::Space;
 
 /// What one instruction leads to.
 #[derive(Clone, Copy, Debug)]
@@ -98,7 +98,7 @@ fn load<S: Space>(width: u8, signed: bool, rd: u8, at: u32, regs: &mut Regs, spa
     if at % width as u32 != 0 {
         return Step::Traps(causes::LOAD_MISALIGNED);
     }
-    match load_told(space, at, width) {
+    match space.load(at, width) {
         Ok(n) => {
             regs.set(rd, widen(width, signed, n));
             advance(regs);
@@ -121,7 +121,7 @@ fn store<S: Space>(width: u8, at: u32, value: u32, regs: &mut Regs, space: &mut 
     if at % width as u32 != 0 {
         return Step::Traps(causes::STORE_MISALIGNED);
     }
-    match store_told(space, at, width, value) {
+    match space.store(at, width, value) {
         Ok(()) => {
             advance(regs);
             Step::Goes
@@ -200,7 +200,7 @@ pub fn make_step<S: Space>(regs: &mut Regs, space: &mut S) -> Step
     if regs.pc % 4 != 0 {
         return Step::Traps(causes::FETCH_MISALIGNED);
     }
-    match fetch_told(space, regs.pc) {
+    match space.fetch(regs.pc) {
         Ok(word) => match decode(word) {
             Some(inst) => exec(inst, regs, space),
             None => Step::Traps(causes::ILLEGAL_INSTRUCTION),

@@ -1,24 +1,66 @@
--- What stays where only the entered view is written, and what needs no frame.
-use Rattle.std.proofs.Common.{◌≡◌, ℕ, ◌+◌, ◌^◌, false, ap, ◌∙◌}
-use Rattle.std.specs.Prelude.{nat_le, ◌&&◌}
+-- What stays where only the entered view is written.
+use Rattle.std.proofs.Common.{◌≡◌, ℕ, ◌+◌, ◌-◌, ◌==◌, ◌<◌, ◌≤◌, Bool, true, false, List, [], ◌∷◌, length, take, sym, ap, ◌∙◌, arith, refl}
+use Rattle.std.specs.Prelude.{slice_index, if◌then◌else◌}
+use Rattle.std.proofs.lemmas.List.{length-take, ext_get_or, get_or-take}
 use Rattle.nx_base.specs.declared.kinds.Access.{Access}
-use Rattle.nx_space.specs.World.{World, Plan, IsEntered, has_view}
-use Rattle.nx_space.specs.Good.{allows_part, all_placed, good_world}
-use Rattle.nx_space.specs.Lawful.{OnlyEntered}
-use Rattle.nx_space.specs.Starts.{start_need, grow_need}
+use Rattle.nx_base.specs.Good.{is_good}
+use Rattle.nx_space.specs.World.{Home, Common, Own, Part, Group, Plan, World, IsEntered, has_view, group_of, group_in, bytes_in, view_in, pool_of}
+use Rattle.nx_space.specs.Places.{with_own}
+use Rattle.nx_space.specs.Lawful.{IsOwn, AreOwn, IsWorld, IsOutside, OnlyEntered}
+use Rattle.nx_space.specs.Starts.{frames_for, frames_of, needs, free, start_need, grow_need}
+use Rattle.nx_space.proofs.Groups.{own_view}
+use Rattle.nx_space.proofs.Goods.{good_alike}
 use Rattle.nx_space.proofs.Stores.{parts_same}
 
+pub good_stays : (v w : World) (at n : ℕ) (a : Access) → OnlyEntered v w → is_good (view_in w) at n a ≡ is_good (view_in v) at n a
+good_stays v w at n a o = good_alike v w v.entered w.entered at n a (parts_same v w o) o.long
+
 pub entered_stays : (v w : World) → OnlyEntered v w → IsEntered v → IsEntered w
-entered_stays v w o h = ap (λ gs. has_view gs w.entered) o.groups ∙ ap (has_view v.groups) o.entered ∙ h
+entered_stays v w o h =
+    ap (λ gs. has_view gs w.entered) o.groups ∙ own_view (group_in w).own v.groups v.entered w.entered ∙ ap (has_view v.groups) o.entered ∙ h
 
-pub good_stays : (v w : World) (at n : ℕ) (a : Access) → OnlyEntered v w → good_world w at n a ≡ good_world v at n a
-unfolding good_world
-good_stays v w at n a o = ap (λ ps. nat_le (at + n) (2 ^ 32) && all_placed (allows_part a) ps at n) (parts_same v w o.groups o.entered)
+-- no group has other frames
+needs_same : (plan : Plan) (own : List (List ℕ)) (gs : List Group) (number : ℕ) → needs plan (with_own own gs number) ≡ needs plan gs
+unfolding needs with_own
+needs_same plan own [] number = refl
+needs_same plan own (g ∷ gs) number = by_test (g.number == number) (needs_same plan own gs number)
+  where
+    by_test : (b : Bool) → needs plan (with_own own gs number) ≡ needs plan gs → needs plan (if b then record g { own = own } ∷ gs else g ∷ with_own own gs number) ≡ frames_of plan g + needs plan gs
+    by_test true h = refl
+    by_test false h = ap (λ n. frames_of plan g + n) h
 
+pub free_stays : (v w : World) → OnlyEntered v w → free w ≡ free v
+free_stays v w o =
+    ap (λ plan. plan.frames - needs plan w.groups) o.plan
+    ∙ ap (λ gs. v.plan.frames - needs v.plan gs) o.groups
+    ∙ ap (λ n. v.plan.frames - n) (needs_same v.plan (group_in w).own v.groups v.entered)
+
+-- the pool stays where the entered view may write none of its bytes
+pub pool_stays : (v w : World) → OnlyEntered v w → ((i : ℕ) → i < v.plan.pool → IsOutside (group_in v).parts (Common 0) i) → pool_of w ≡ pool_of v
+pool_stays v w o out =
+    let long = o.long (Common 0) in
+    ap (λ plan. take plan.pool (bytes_in w.common 0)) o.plan
+    ∙ ext_get_or 0 _ _ (omega (arith, long, length-take v.plan.pool (bytes_in w.common 0), length-take v.plan.pool (bytes_in v.common 0))) (λ j h.
+    let l : j < v.plan.pool = omega (arith, h, length-take v.plan.pool (bytes_in w.common 0)) in
+    get_or-take v.plan.pool (bytes_in w.common 0) j 0 l ∙ o.others (Common 0) j (out j l) ∙ sym (get_or-take v.plan.pool (bytes_in v.common 0) j 0 l))
+
+-- windows of a group's own bytes let no other be written
+own_outside : (ps : List Part) (i : ℕ) → AreOwn ps → IsOutside ps (Common 0) i
+own_outside [] i h = tt
+own_outside (p ∷ ps) i h = (λ w e. absurd (own_home p.home h.0 e), own_outside ps i h.1)
+  where
+    own_home : (k : Home) → IsOwn k → k ≡ Common 0 → ⊥
+    own_home (Common j) h e = h
+    own_home (Own j) h e = cc
+
+pub paged_pool_stays : (v w : World) → OnlyEntered v w → IsWorld v → IsEntered v → v.plan.is_paged ≡ true → pool_of w ≡ pool_of v
+paged_pool_stays v w o h e p = pool_stays v w o (λ i l. own_outside (group_in v).parts i (h.alone p v.entered e).own)
+
+-- without pages nothing needs a frame
 pub start_needs_none : (plan : Plan) (program slot : ℕ) → plan.is_paged ≡ false → start_need plan program slot ≡ 0
-unfolding start_need
+unfolding frames_for
 start_needs_none plan program slot h = rw h
 
 pub stack_needs_none : (w : World) (number slot : ℕ) → w.plan.is_paged ≡ false → grow_need w number slot ≡ 0
-unfolding grow_need
+unfolding frames_for
 stack_needs_none w number slot h = rw h

@@ -1,229 +1,199 @@
--- A store in the world is a store in the entered view.
-use Rattle.std.proofs.Common.{◌≡◌, ◌≢◌, ℕ, ◌+◌, ◌-◌, ◌<◌, ◌≤◌, ◌⊎◌, Bool, true, false, List, [], ◌∷◌, length, take, drop, Option, Some, None, Ok, Err, refl, sym, ap, ◌∙◌, subst, arith, ⊎_elim, inl, inr}
+-- A world with bytes put where its entered view shows them.
+use Rattle.std.proofs.Common.{◌≡◌, ◌≢◌, ℕ, ◌+◌, ◌<◌, ◌≤◌, ◌⊎◌, Bool, true, false, List, [], ◌∷◌, length, Option, Some, None, Ok, Err, refl, sym, ap, ◌∙◌, subst, arith, ⊎_elim, inl, inr}
 use Rattle.std.specs.Prelude.{if◌then◌else◌, map, slice_set, slice_index}
 use Rattle.std.proofs.lemmas.List.{length-set, get_or-set_same, get_or-set_other}
-use Rattle.std.proofs.lemmas.Bool.{cases_eq}
 use Rattle.nx_base.specs.ByteLists.{put_bytes, to_le}
-use Rattle.nx_base.proofs.ByteLemmas.{length-to_le}
-use Rattle.nx_base.specs.Views.{Window, holds, put_in, and_before, view_or, store_bytes}
-use Rattle.nx_ram.proofs.Puts.{length_put}
-use Rattle.nx_space.specs.World.{Part, World, parts_of, parts_in, view_in, view_of, window_of, segment_of}
-use Rattle.nx_space.specs.Accesses.{Place, lies_in, place_in, put_at, with_bytes, store_world}
-use Rattle.nx_space.specs.Lawful.{IsApartFrom, AreParts, IsOutside, OnlyEntered}
-use Rattle.nx_space.proofs.Bytes.{get_put_other, put_in_part, put_other_part}
-use Rattle.nx_space.proofs.Views.{holds_part, within}
+use Rattle.nx_base.proofs.Puts.{length-put_bytes, get-put_bytes_other, length-to_le}
+use Rattle.nx_base.specs.Views.{number_or, fetch_word, load_bytes, put_in, view_or, store_bytes}
+use Rattle.nx_space.specs.World.{Home, Common, Own, Part, World, IsEntered, has_view, group_of, group_in, bytes_in, bytes_of, seen_by, view_in, view_of, window_of}
+use Rattle.nx_space.specs.Places.{Place, place_in, written_at, with_own, put_into, put_home, with_bytes}
+use Rattle.nx_space.specs.Lawful.{IsThere, AreParts, IsWorld, IsOutside, OnlyEntered}
+use Rattle.nx_space.proofs.Groups.{own_same, own_parts_same, own_again, own_nothing}
+use Rattle.nx_space.proofs.Windows.{AreLaid, laid, IsPut, cases_home, find_parts, bytes_at, place_fits, place_there, store_parts, refuse_parts, outside_place}
 
--- the segments with bytes put at a place
-abbrev puts : List (List ℕ) → Place → List ℕ → List (List ℕ)
-puts ss pl xs = slice_set ss pl.segment (put_bytes (segment_of ss pl.segment) pl.at xs)
-
--- the bytes at a place are none of a part's
-abbrev IsFree : Place → ℕ → Part → Type 0
-IsFree pl n p = (p.segment ≢ pl.segment) ⊎ ((p.from + p.bytes ≤ pl.at) ⊎ (pl.at + n ≤ p.from))
-
--- a segment when bytes are put at a place
-segment_same : (ss : List (List ℕ)) (pl : Place) (xs : List ℕ) (k : ℕ) → pl.segment < length ss → k ≡ pl.segment → segment_of (puts ss pl xs) k ≡ put_bytes (segment_of ss k) pl.at xs
-segment_same ss pl xs k h e =
-    ap (segment_of (puts ss pl xs)) e ∙ get_or-set_same ss pl.segment _ [] h ∙ ap (λ j. put_bytes (segment_of ss j) pl.at xs) (sym e)
-
-segment_other : (ss : List (List ℕ)) (pl : Place) (xs : List ℕ) (k : ℕ) → k ≢ pl.segment → segment_of (puts ss pl xs) k ≡ segment_of ss k
-segment_other ss pl xs k e = get_or-set_other ss pl.segment k _ [] e
-
-abbrev with_part : Part → List ℕ → Window
-with_part p bytes = record { start = p.start; reads = p.reads; writes = p.writes; runs = p.runs; bytes = bytes }
-
--- a part that shares no byte with a place
-window_other : (ss : List (List ℕ)) (pl : Place) (xs : List ℕ) (p : Part) → pl.segment < length ss → IsFree pl (length xs) p → window_of (puts ss pl xs) p ≡ window_of ss p
-window_other ss pl xs p h free = ⊎_elim same other (cases_eq p.segment pl.segment)
+-- the windows of each group lie in their bytes, and apart
+pub lawful_parts : (w : World) (number : ℕ) → IsWorld w → has_view w.groups number ≡ true → AreParts w.common (group_of w.groups number).own (group_of w.groups number).parts
+lawful_parts w number h v = by_pages w.plan.is_paged refl
   where
-    other : p.segment ≢ pl.segment → window_of (puts ss pl xs) p ≡ window_of ss p
-    other e = ap (λ bs. with_part p (take p.bytes (drop p.from bs))) (segment_other ss pl xs p.segment e)
+    by_pages : (b : Bool) → w.plan.is_paged ≡ b → AreParts w.common (group_of w.groups number).own (group_of w.groups number).parts
+    by_pages true e = (h.alone e number v).parts
+    by_pages false e =
+        let a = h.alike e number v in
+        subst (λ own. AreParts w.common own (group_of w.groups number).parts) (sym a.1) (subst (AreParts w.common []) (sym a.0) (h.shared e).parts)
 
-    same : p.segment ≡ pl.segment → window_of (puts ss pl xs) p ≡ window_of ss p
-    same e =
-        ⊎_elim other (λ out.
-        ap (λ bs. with_part p (take p.bytes (drop p.from bs))) (segment_same ss pl xs p.segment h e)
-        ∙ ap (with_part p) (put_other_part (segment_of ss p.segment) pl.at xs p.from p.bytes out)) free
+pub lawful_laid : (w : World) (number : ℕ) → IsWorld w → has_view w.groups number ≡ true → AreLaid (seen_by w number) (group_of w.groups number).parts
+lawful_laid w number h v = laid w.common (group_of w.groups number).own (group_of w.groups number).parts (lawful_parts w number h v)
 
--- the cases of a place
-data Placed (may : Part → Bool) (p : Part) (ps : List Part) (at n : ℕ) (pl : Place) : Type 0 where
-  here : lies_in p at n ≡ true → may p ≡ true → pl.segment ≡ p.segment → pl.at ≡ p.from + (at - p.start) → Placed may p ps at n pl
-  later : lies_in p at n ≡ false → place_in may ps at n ≡ Some pl → Placed may p ps at n pl
+-- what an access of the entered view finds
+pub loaded : (w : World) (at n : ℕ) → IsWorld w → IsEntered w → load_bytes (view_in w) at n ≡ number_or (bytes_at (seen_by w w.entered) (place_in (λ p. p.reads) (group_in w).parts at n) n) (if w.plan.is_paged then 13 else 5)
+unfolding load_bytes
+loaded w at n h e = ap (λ o. number_or o (if w.plan.is_paged then 13 else 5)) (find_parts (λ p. p.reads) (λ u. u.reads) (seen_by w w.entered) (group_in w).parts at n (λ p. refl) (lawful_laid w w.entered h e))
 
-placed : (may : Part → Bool) (p : Part) (ps : List Part) (at n : ℕ) (pl : Place) → place_in may (p ∷ ps) at n ≡ Some pl → Placed may p ps at n pl
-unfolding place_in
-placed may p ps at n pl e = by_test (lies_in p at n) refl e
+pub fetched : (w : World) (at : ℕ) → IsWorld w → IsEntered w → fetch_word (view_in w) at ≡ number_or (bytes_at (seen_by w w.entered) (place_in (λ p. p.runs) (group_in w).parts at 4) 4) (if w.plan.is_paged then 12 else 1)
+unfolding fetch_word
+fetched w at h e = ap (λ o. number_or o (if w.plan.is_paged then 12 else 1)) (find_parts (λ p. p.runs) (λ u. u.runs) (seen_by w w.entered) (group_in w).parts at 4 (λ p. refl) (lawful_laid w w.entered h e))
+
+-- lists of bytes with some put into one
+pub into_same : (bs : List (List ℕ)) (k at : ℕ) (xs : List ℕ) → k < length bs → bytes_in (put_into bs k at xs) k ≡ put_bytes (bytes_in bs k) at xs
+into_same bs k at xs h = get_or-set_same bs k _ [] h
+
+pub into_other : (bs : List (List ℕ)) (k at : ℕ) (xs : List ℕ) (j : ℕ) → j ≢ k → bytes_in (put_into bs k at xs) j ≡ bytes_in bs j
+into_other bs k at xs j ne = get_or-set_other bs k j _ [] ne
+
+abbrev pub placed : Home → ℕ → Place
+placed h i = record { home = h; at = i }
+
+put_common : (common own : List (List ℕ)) (k i : ℕ) (xs : List ℕ) → k < length common → i + length xs ≤ length (bytes_in common k) → IsPut (bytes_of common own) (bytes_of (put_into common k i xs) own) (placed (Common k) i) xs
+put_common common own k i xs there fit = record {
+  fits = fit;
+  same = into_same common k i xs there;
+  other = others;
+}
   where
-    there : Place
-    there = record { segment = p.segment; at = p.from + (at - p.start) }
+    others : (h : Home) → h ≢ Common k → bytes_of (put_into common k i xs) own h ≡ bytes_of common own h
+    others (Common j) ne = into_other common k i xs j (λ e. ne (ap Common e))
+    others (Own j) ne = refl
 
-    by_may : (b : Bool) → may p ≡ b → lies_in p at n ≡ true → (if b then Some there else None) ≡ Some pl → Placed may p ps at n pl
-    by_may true m h e = let f : there ≡ pl = cc in here h m (ap (λ q. q.segment) (sym f)) (ap (λ q. q.at) (sym f))
-    by_may false m h e = absurd cc
-
-    by_test : (b : Bool) → lies_in p at n ≡ b → (if b then (if may p then Some there else None) else place_in may ps at n) ≡ Some pl → Placed may p ps at n pl
-    by_test true h e = by_may (may p) refl h e
-    by_test false h e = later h e
-
--- a place lies in a segment that there is
-place_there : (may : Part → Bool) (ss : List (List ℕ)) (ps : List Part) (at n : ℕ) (pl : Place) → AreParts ss ps → place_in may ps at n ≡ Some pl → pl.segment < length ss
-unfolding place_in
-place_there may ss [] at n pl a e = absurd cc
-place_there may ss (p ∷ ps) at n pl a e = by_case (λ r. place_there may ss ps at n pl a.1.1 r) (placed may p ps at n pl e)
+put_own : (common own : List (List ℕ)) (k i : ℕ) (xs : List ℕ) → k < length own → i + length xs ≤ length (bytes_in own k) → IsPut (bytes_of common own) (bytes_of common (put_into own k i xs)) (placed (Own k) i) xs
+put_own common own k i xs there fit = record {
+  fits = fit;
+  same = into_same own k i xs there;
+  other = others;
+}
   where
-    by_case : (place_in may ps at n ≡ Some pl → pl.segment < length ss) → Placed may p ps at n pl → pl.segment < length ss
-    by_case more (here h m s i) = let b = a.0.0 in omega arith
-    by_case more (later h r) = more r
+    others : (h : Home) → h ≢ Own k → bytes_of common (put_into own k i xs) h ≡ bytes_of common own h
+    others (Common j) ne = refl
+    others (Own j) ne = into_other own k i xs j (λ e. ne (ap Own e))
 
--- a place in other parts is none of a part
-found_apart : (may : Part → Bool) (p : Part) (ps : List Part) (at n : ℕ) (pl : Place) → IsApartFrom p ps → place_in may ps at n ≡ Some pl → IsFree pl n p
-unfolding place_in
-found_apart may p [] at n pl a e = absurd cc
-found_apart may p (q ∷ qs) at n pl a e = by_case (λ r. found_apart may p qs at n pl a.1 r) (placed may q qs at n pl e)
-  where
-    by_case : (place_in may qs at n ≡ Some pl → IsFree pl n p) → Placed may q qs at n pl → IsFree pl n p
-    by_case more (here h m s i) =
-        let w = within q at n h in
-        ⊎_elim (λ ne. inl (λ e. ne (e ∙ s))) (λ out. inr (⊎_elim (λ l. inl (omega arith)) (λ l. inr (omega arith)) out)) a.0
-    by_case more (later h r) = more r
+-- bytes that are put at a group's place are put into what it sees
+pub is_put : (w : World) (number : ℕ) (h : Home) (i : ℕ) (xs : List ℕ) → has_view w.groups number ≡ true → IsThere w.common (group_of w.groups number).own h → i + length xs ≤ length (seen_by w number h) → IsPut (seen_by w number) (seen_by (put_home w number h i xs) number) (placed h i) xs
+is_put w number (Common k) i xs v there fit = put_common w.common (group_of w.groups number).own k i xs there fit
+is_put w number (Own k) i xs v there fit =
+    let own = (group_of w.groups number).own in
+    subst (λ o. IsPut (seen_by w number) (bytes_of w.common o) (placed (Own k) i) xs) (sym (ap (λ g. g.own) (own_same (put_into own k i xs) w.groups number v))) (put_own w.common own k i xs there fit)
 
--- parts apart from the one that is written stay
-parts_other : (ss : List (List ℕ)) (pl : Place) (xs : List ℕ) (p : Part) (ps : List Part) → pl.segment < length ss → pl.segment ≡ p.segment → p.from ≤ pl.at → pl.at + length xs ≤ p.from + p.bytes → IsApartFrom p ps → map (window_of (puts ss pl xs)) ps ≡ map (window_of ss) ps
-parts_other ss pl xs p [] h s b c a = refl
-parts_other ss pl xs p (q ∷ qs) h s b c a =
-    let free : IsFree pl (length xs) q =
-    ⊎_elim (λ ne. inl (λ e. ne (sym (e ∙ s)))) (λ out. inr (⊎_elim (λ l. inr (omega arith)) (λ l. inl (omega arith)) out)) a.0 in
-    ap (λ w. w ∷ map (window_of (puts ss pl xs)) qs) (window_other ss pl xs q h free)
-    ∙ ap (λ ws. window_of ss q ∷ ws) (parts_other ss pl xs p qs h s b c a.1)
+pub put_parts : (w : World) (number : ℕ) (h : Home) (i : ℕ) (xs : List ℕ) (m : ℕ) → (group_of (put_home w number h i xs).groups m).parts ≡ (group_of w.groups m).parts
+put_parts w number (Common k) i xs m = refl
+put_parts w number (Own k) i xs m = own_parts_same (put_into (group_of w.groups number).own k i xs) w.groups number m
 
-put_here : (w : Window) (ws : List Window) (at : ℕ) (xs : List ℕ) → holds w at (length xs) ≡ true → w.writes ≡ true → put_in (w ∷ ws) at xs ≡ Some (record w { bytes = put_bytes w.bytes (at - w.start) xs } ∷ ws)
-unfolding put_in
-put_here w ws at xs h m = rw (h, m)
+pub put_plan : (w : World) (number : ℕ) (h : Home) (i : ℕ) (xs : List ℕ) → (put_home w number h i xs).plan ≡ w.plan
+put_plan w number (Common k) i xs = refl
+put_plan w number (Own k) i xs = refl
 
-put_next : (w : Window) (ws rest : List Window) (at : ℕ) (xs : List ℕ) → holds w at (length xs) ≡ false → put_in ws at xs ≡ Some rest → put_in (w ∷ ws) at xs ≡ Some (w ∷ rest)
-unfolding put_in
-put_next w ws rest at xs h e = rw (h, e)
+-- the group's view with bytes put into it
+pub put_view : (w : World) (number at : ℕ) (xs : List ℕ) (pl : Place) → has_view w.groups number ≡ true → AreParts w.common (group_of w.groups number).own (group_of w.groups number).parts → written_at (group_of w.groups number).parts at (length xs) ≡ Some pl → put_in (view_of w number).windows at xs ≡ Some (view_of (with_bytes w number pl xs) number).windows
+put_view w number at xs pl v a e =
+    let b = seen_by w number in
+    let ps = (group_of w.groups number).parts in
+    let there = place_there (λ p. p.writes) w.common (group_of w.groups number).own ps at (length xs) pl a e in
+    let fit = place_fits (λ p. p.writes) b ps at (length xs) pl (laid w.common (group_of w.groups number).own ps a) e in
+    let new = with_bytes w number pl xs in
+    store_parts b (seen_by new number) ps at xs pl (laid w.common (group_of w.groups number).own ps a) (is_put w number pl.home pl.at xs v there fit) e
+    ∙ ap (λ qs. Some (map (window_of (seen_by new number)) qs)) (sym (put_parts w number pl.home pl.at xs number))
 
-store_parts : (ss : List (List ℕ)) (ps : List Part) (at : ℕ) (xs : List ℕ) (pl : Place) → AreParts ss ps → place_in (λ p. p.writes) ps at (length xs) ≡ Some pl → put_in (map (window_of ss) ps) at xs ≡ Some (map (window_of (puts ss pl xs)) ps)
-unfolding place_in
-store_parts ss [] at xs pl a e = absurd cc
-store_parts ss (p ∷ ps) at xs pl a e = by_case (λ r. store_parts ss ps at xs pl a.1.1 r) (placed (λ p. p.writes) p ps at (length xs) pl e)
-  where
-    by_case : (place_in (λ p. p.writes) ps at (length xs) ≡ Some pl → put_in (map (window_of ss) ps) at xs ≡ Some (map (window_of (puts ss pl xs)) ps)) → Placed (λ p. p.writes) p ps at (length xs) pl → put_in (map (window_of ss) (p ∷ ps)) at xs ≡ Some (map (window_of (puts ss pl xs)) (p ∷ ps))
-    by_case more (here h w s i) =
-        let k = within p at (length xs) h in
-        let b = a.0.0 in
-        let there : pl.segment < length ss = omega arith in
-        let same = ap (λ bs. take p.bytes (drop p.from bs)) (segment_same ss pl xs p.segment there (sym s))
-        ∙ put_in_part (segment_of ss p.segment) p.from p.bytes (at - p.start) pl.at xs i (omega arith) in
-        let rest = parts_other ss pl xs p ps there s (omega arith) (omega arith) a.1.0 in
-        put_here (window_of ss p) (map (window_of ss) ps) at xs (holds_part ss p at (length xs) a.0.1 ∙ h) w
-        ∙ ap (λ bs. Some (with_part p bs ∷ map (window_of ss) ps)) (sym same)
-        ∙ ap (λ ws. Some (window_of (puts ss pl xs) p ∷ ws)) (sym rest)
-    by_case more (later h r) =
-        let there = place_there (λ p. p.writes) ss ps at (length xs) pl a.1.1 r in
-        let same = window_other ss pl xs p there (found_apart (λ p. p.writes) p ps at (length xs) pl a.1.0 r) in
-        put_next (window_of ss p) (map (window_of ss) ps) _ at xs (holds_part ss p at (length xs) a.0.1 ∙ h) (more r)
-        ∙ ap (λ w. Some (w ∷ map (window_of (puts ss pl xs)) ps)) (sym same)
+-- what is put leaves lengths and other bytes
+pub put_long : (b c : Home → List ℕ) (pl : Place) (xs : List ℕ) → IsPut b c pl xs → (h : Home) → length (c h) ≡ length (b h)
+put_long b c pl xs put h = ⊎_elim (λ e. ap (λ k. length (c k)) e ∙ ap length put.same ∙ length-put_bytes (b pl.home) pl.at xs put.fits ∙ ap (λ k. length (b k)) (sym e)) (λ ne. ap length (put.other h ne)) (cases_home h pl.home)
 
--- a store that the world takes is one that the entered view takes, with the same bytes
-pub store_in_view : (w new : World) (at n x : ℕ) → AreParts w.segments (parts_in w) → store_world w at n x ≡ Ok new → store_bytes (view_in w) at n x ≡ Ok (view_of new w.entered)
-unfolding store_world store_bytes
-store_in_view w new at n x a e = by_place (place_in (λ p. p.writes) (parts_in w) at n) refl e
-  where
-    cause : ℕ
-    cause = if w.plan.is_paged then 15 else 7
-
-    by_place : (o : Option Place) → place_in (λ p. p.writes) (parts_in w) at n ≡ o → put_at w o (to_le n x) cause ≡ Ok new → view_or (view_in w) (put_in (map (window_of w.segments) (parts_in w)) at (to_le n x)) cause ≡ Ok (view_of new w.entered)
-    by_place None p e = absurd cc
-    by_place (Some pl) p e =
-        let is : with_bytes w pl (to_le n x) ≡ new = cc in
-        let there = ap (place_in (λ p. p.writes) (parts_in w) at) (length-to_le n x) ∙ p in
-        ap (λ o. view_or (view_in w) o cause) (store_parts w.segments (parts_in w) at (to_le n x) pl a there)
-        ∙ ap (λ u. Ok (view_of u w.entered)) is
-
--- where nothing may be put in the world, nothing may in the view
-refuse_parts : (ss : List (List ℕ)) (ps : List Part) (at : ℕ) (xs : List ℕ) → AreParts ss ps → place_in (λ p. p.writes) ps at (length xs) ≡ None → put_in (map (window_of ss) ps) at xs ≡ None
-unfolding place_in put_in
-refuse_parts ss [] at xs a e = refl
-refuse_parts ss (p ∷ ps) at xs a e =
-    rw (holds_part ss p at (length xs) a.0.1) (by_test (lies_in p at (length xs)) p.writes e (λ r. refuse_parts ss ps at xs a.1.1 r))
-  where
-    by_test : (b c : Bool) → (if b then (if c then Some (record { segment = p.segment; at = p.from + (at - p.start) }) else None) else place_in (λ p. p.writes) ps at (length xs)) ≡ (let o : Option Place = None in o) → (place_in (λ p. p.writes) ps at (length xs) ≡ None → put_in (map (window_of ss) ps) at xs ≡ None) → (if b then (if c then Some (record (window_of ss p) { bytes = put_bytes (window_of ss p).bytes (at - p.start) xs } ∷ map (window_of ss) ps) else None) else and_before (window_of ss p) (put_in (map (window_of ss) ps) at xs)) ≡ None
-    by_test true true e more = absurd cc
-    by_test true false e more = refl
-    by_test false c e more = ap (and_before (window_of ss p)) (more e)
-
-pub refuse_in_view : (w : World) (at n x cause : ℕ) → AreParts w.segments (parts_in w) → store_world w at n x ≡ Err cause → store_bytes (view_in w) at n x ≡ Err cause
-unfolding store_world store_bytes
-refuse_in_view w at n x cause a e = by_place (place_in (λ p. p.writes) (parts_in w) at n) refl e
-  where
-    own : ℕ
-    own = if w.plan.is_paged then 15 else 7
-
-    by_place : (o : Option Place) → place_in (λ p. p.writes) (parts_in w) at n ≡ o → put_at w o (to_le n x) own ≡ Err cause → view_or (view_in w) (put_in (map (window_of w.segments) (parts_in w)) at (to_le n x)) own ≡ Err cause
-    by_place None p e =
-        let is : own ≡ cause = cc in
-        let none = ap (place_in (λ p. p.writes) (parts_in w) at) (length-to_le n x) ∙ p in
-        ap (λ o. view_or (view_in w) o own) (refuse_parts w.segments (parts_in w) at (to_le n x) a none) ∙ ap Err is
-    by_place (Some pl) p e = absurd cc
-
--- a byte that may not be written is none of a place's
-outside_place : (ps : List Part) (at n : ℕ) (pl : Place) (k i : ℕ) → place_in (λ p. p.writes) ps at n ≡ Some pl → IsOutside ps k i → k ≡ pl.segment → (i < pl.at) ⊎ (pl.at + n ≤ i)
-unfolding place_in
-outside_place [] at n pl k i e out s = absurd cc
-outside_place (p ∷ ps) at n pl k i e out s = by_case (λ r. outside_place ps at n pl k i r out.1 s) (placed (λ p. p.writes) p ps at n pl e)
-  where
-    by_case : (place_in (λ p. p.writes) ps at n ≡ Some pl → (i < pl.at) ⊎ (pl.at + n ≤ i)) → Placed (λ p. p.writes) p ps at n pl → (i < pl.at) ⊎ (pl.at + n ≤ i)
-    by_case more (here h m t j) =
-        let w = within p at n h in
-        ⊎_elim (λ l. inl (omega arith)) (λ l. inr (omega arith)) (out.0 m (sym (s ∙ t)))
-    by_case more (later h r) = more r
+pub put_others : (b c : Home → List ℕ) (pl : Place) (xs : List ℕ) → IsPut b c pl xs → (h : Home) (i : ℕ) → (h ≡ pl.home → (i < pl.at) ⊎ (pl.at + length xs ≤ i)) → slice_index (c h) i ≡ slice_index (b h) i
+put_others b c pl xs put h i out =
+    ⊎_elim (λ e. ap (λ k. slice_index (c k) i) e ∙ ap (λ bs. slice_index bs i) put.same ∙ get-put_bytes_other (b pl.home) pl.at xs i put.fits (out e) ∙ ap (λ k. slice_index (b k) i) (sym e))
+    (λ ne. ap (λ bs. slice_index bs i) (put.other h ne)) (cases_home h pl.home)
 
 pub only_refl : (w : World) → OnlyEntered w w
-only_refl w = record { plan = refl; groups = refl; entered = refl; free = refl; outside = refl; segments = refl; long = λ k. refl; others = λ k i out. refl }
-
-only_put : (w : World) (at n : ℕ) (pl : Place) (xs : List ℕ) → n ≡ length xs → pl.segment < length w.segments → place_in (λ p. p.writes) (parts_in w) at n ≡ Some pl → OnlyEntered w (with_bytes w pl xs)
-only_put w at n pl xs l h p = record {
+only_refl w = record {
   plan = refl;
-  groups = refl;
   entered = refl;
-  free = refl;
   outside = refl;
-  segments = length-set w.segments pl.segment _;
-  long = λ k. ⊎_elim (λ e. ap length (segment_same w.segments pl xs k h e) ∙ length_put (segment_of w.segments k) pl.at xs) (λ e. ap length (segment_other w.segments pl xs k e)) (cases_eq k pl.segment);
-  others = λ k i out. ⊎_elim (λ e.
-      ap (λ bs. slice_index bs i) (segment_same w.segments pl xs k h e)
-      ∙ get_put_other (segment_of w.segments k) pl.at xs i (subst (λ m. (i < pl.at) ⊎ (pl.at + m ≤ i)) l (outside_place (parts_in w) at n pl k i p out e)))
-      (λ e. ap (λ bs. slice_index bs i) (segment_other w.segments pl xs k e))
-      (cases_eq k pl.segment);
+  groups = sym (own_nothing w.groups w.entered);
+  common = refl;
+  own = refl;
+  long = λ h. refl;
+  others = λ h i out. refl;
 }
 
--- a store differs in nothing but bytes that the entered view may write
-pub only_store : (w new : World) (at n x : ℕ) → AreParts w.segments (parts_in w) → store_world w at n x ≡ Ok new → OnlyEntered w new
-unfolding store_world
-only_store w new at n x a e = by_place (place_in (λ p. p.writes) (parts_in w) at n) refl e
-  where
-    cause : ℕ
-    cause = if w.plan.is_paged then 15 else 7
+pub only_put : (w : World) (h : Home) (i : ℕ) (xs : List ℕ) → IsEntered w → IsThere w.common (group_in w).own h → i + length xs ≤ length (seen_by w w.entered h) → ((k : Home) (j : ℕ) → IsOutside (group_in w).parts k j → k ≡ h → (j < i) ⊎ (i + length xs ≤ j)) → OnlyEntered w (put_home w w.entered h i xs)
+only_put w (Common k) i xs v there fit out =
+    let put = is_put w w.entered (Common k) i xs v there fit in
+    let b = seen_by w w.entered in
+    let c = seen_by (put_home w w.entered (Common k) i xs) w.entered in
+    record {
+      plan = refl;
+      entered = refl;
+      outside = refl;
+      groups = sym (own_nothing w.groups w.entered);
+      common = length-set w.common k _;
+      own = refl;
+      long = put_long b c (placed (Common k) i) xs put;
+      others = λ h j o. put_others b c (placed (Common k) i) xs put h j (out h j o);
+    }
+only_put w (Own k) i xs v there fit out =
+    let put = is_put w w.entered (Own k) i xs v there fit in
+    let own = put_into (group_in w).own k i xs in
+    let is = ap (λ g. g.own) (own_same own w.groups w.entered v) in
+    let b = seen_by w w.entered in
+    let c = seen_by (put_home w w.entered (Own k) i xs) w.entered in
+    record {
+      plan = refl;
+      entered = refl;
+      outside = refl;
+      groups = ap (λ o. with_own o w.groups w.entered) (sym is);
+      common = refl;
+      own = ap length is ∙ length-set (group_in w).own k _;
+      long = put_long b c (placed (Own k) i) xs put;
+      others = λ h j o. put_others b c (placed (Own k) i) xs put h j (out h j o);
+    }
 
-    by_place : (o : Option Place) → place_in (λ p. p.writes) (parts_in w) at n ≡ o → put_at w o (to_le n x) cause ≡ Ok new → OnlyEntered w new
-    by_place None p e = absurd cc
-    by_place (Some pl) p e =
-        let is : with_bytes w pl (to_le n x) ≡ new = cc in
-        subst (OnlyEntered w) is (only_put w at n pl (to_le n x) (sym (length-to_le n x)) (place_there (λ p. p.writes) w.segments (parts_in w) at n pl a p) p)
+-- a store of the entered view, and what it changes
+pub record Stored (w new : World) (at n x : ℕ) : Type 0 where
+  pub answer : store_bytes (view_in w) at n x ≡ Ok (view_in new)
+  pub only : OnlyEntered w new
 
-pub parts_same : (u v : World) → v.groups ≡ u.groups → v.entered ≡ u.entered → parts_in v ≡ parts_in u
-parts_same u v g e = ap (λ gs. parts_of gs v.entered) g ∙ ap (parts_of u.groups) e
+put_entered : (w : World) (number : ℕ) (h : Home) (i : ℕ) (xs : List ℕ) → (put_home w number h i xs).entered ≡ w.entered
+put_entered w number (Common k) i xs = refl
+put_entered w number (Own k) i xs = refl
+
+pub stored : (w : World) (at n x : ℕ) (pl : Place) → IsWorld w → IsEntered w → written_at (group_in w).parts at n ≡ Some pl → Stored w (with_bytes w w.entered pl (to_le n x)) at n x
+unfolding store_bytes
+stored w at n x pl h v e =
+    let xs = to_le n x in
+    let new = with_bytes w w.entered pl xs in
+    let cause : ℕ = if w.plan.is_paged then 15 else 7 in
+    let size = length-to_le n x in
+    let a = lawful_parts w w.entered h v in
+    let ps = (group_in w).parts in
+    let f = ap (written_at ps at) size ∙ e in
+    let there = place_there (λ p. p.writes) w.common (group_in w).own ps at n pl a e in
+    let fit = place_fits (λ p. p.writes) (seen_by w w.entered) ps at (length xs) pl (laid w.common (group_in w).own ps a) f in
+    record {
+      answer =
+          ap (λ o. view_or (view_in w) o cause) (put_view w w.entered at xs pl v a f)
+          ∙ ap (λ b. Ok (record { windows = (view_of new w.entered).windows; is_paged = b })) (ap (λ p. p.is_paged) (sym (put_plan w w.entered pl.home pl.at xs)))
+          ∙ ap (λ g. Ok (view_of new g)) (sym (put_entered w w.entered pl.home pl.at xs));
+      only = only_put w pl.home pl.at xs v there fit (λ k j out s. outside_place ps at (length xs) pl k j f out s);
+    }
+
+pub not_stored : (w : World) (at n x : ℕ) → IsWorld w → IsEntered w → written_at (group_in w).parts at n ≡ None → store_bytes (view_in w) at n x ≡ Err (if w.plan.is_paged then 15 else 7)
+unfolding store_bytes
+not_stored w at n x h v e =
+    let f = ap (written_at (group_in w).parts at) (length-to_le n x) ∙ e in
+    ap (λ o. view_or (view_in w) o (if w.plan.is_paged then 15 else 7)) (refuse_parts (seen_by w w.entered) (group_in w).parts at (to_le n x) (lawful_laid w w.entered h v) f)
+
+-- one after another
+pub parts_same : (u v : World) → OnlyEntered u v → (group_in v).parts ≡ (group_in u).parts
+parts_same u v o =
+    ap (λ gs. (group_of gs v.entered).parts) o.groups
+    ∙ own_parts_same (group_in v).own u.groups u.entered v.entered
+    ∙ ap (λ e. (group_of u.groups e).parts) o.entered
 
 pub only_trans : (u v w : World) → OnlyEntered u v → OnlyEntered v w → OnlyEntered u w
 only_trans u v w a b = record {
   plan = b.plan ∙ a.plan;
-  groups = b.groups ∙ a.groups;
   entered = b.entered ∙ a.entered;
-  free = b.free ∙ a.free;
   outside = b.outside ∙ a.outside;
-  segments = b.segments ∙ a.segments;
-  long = λ k. b.long k ∙ a.long k;
-  others = λ k i out. b.others k i (subst (λ ps. IsOutside ps k i) (sym (parts_same u v a.groups a.entered)) out) ∙ a.others k i out;
+  groups = b.groups ∙ ap (λ gs. with_own (group_in w).own gs v.entered) a.groups ∙ ap (λ e. with_own (group_in w).own (with_own (group_in v).own u.groups u.entered) e) a.entered ∙ own_again (group_in w).own (group_in v).own u.groups u.entered;
+  common = b.common ∙ a.common;
+  own = b.own ∙ a.own;
+  long = λ h. b.long h ∙ a.long h;
+  others = λ h i out. b.others h i (subst (λ ps. IsOutside ps h i) (sym (parts_same u v a)) out) ∙ a.others h i out;
 }

@@ -1,6 +1,6 @@
 pub mod World
-pub mod Accesses
-pub mod Good
-pub mod Lawful
+pub mod Places
 pub mod Starts
+pub mod Lawful
+pub mod Shared
 pub mod Flat

@@ -1,12 +1,11 @@
--- What a fetch, a load and a store of the entered view do to a world.
-use Rattle.std.specs.Prelude.{ℕ, ◌+◌, ◌-◌, Bool, ◌&&◌, nat_le, if◌then◌else◌, List, [], ◌∷◌, Option, Some, None, Result, Ok, Err, slice_set}
-use Rattle.nx_base.specs.ByteLists.{get_bytes, put_bytes, to_le}
-use Rattle.nx_base.specs.Views.{number_or}
-use Rattle.nx_space.specs.World.{Part, World, parts_in, segment_of}
+-- Where the bytes at an address stand, and a world with other bytes there.
+use Rattle.std.specs.Prelude.{ℕ, zero, suc, ◌+◌, ◌-◌, ◌==◌, Bool, true, false, ◌&&◌, nat_le, if◌then◌else◌, List, [], ◌∷◌, Option, Some, None, slice_set}
+use Rattle.nx_base.specs.ByteLists.{put_bytes}
+use Rattle.nx_space.specs.World.{Home, Common, Own, Part, Group, World, group_of, bytes_in}
 
--- a byte of a segment
+-- a byte that windows show
 pub record Place : Type 0 where
-  pub segment : ℕ
+  pub home : Home
   pub at : ℕ
 
 -- the n bytes at an address lie in the window
@@ -18,29 +17,36 @@ unfoldable pub place_in : (Part → Bool) → List Part → ℕ → ℕ → Opti
 place_in may [] at n = None
 place_in may (p ∷ ps) at n =
     if lies_in p at n
-    then (if may p then Some (record { segment = p.segment; at = p.from + (at - p.start) }) else None)
+    then (if may p then Some (record { home = p.home; at = p.from + (at - p.start) }) else None)
     else place_in may ps at n
 
-abbrev pub bytes_at : List (List ℕ) → Option Place → ℕ → Option (List ℕ)
-bytes_at ss None n = None
-bytes_at ss (Some p) n = Some (get_bytes (segment_of ss p.segment) p.at n)
+-- where the n bytes at an address stand, if they may be written
+abbrev pub written_at : List Part → ℕ → ℕ → Option Place
+written_at ps at n = place_in (λ p. p.writes) ps at n
 
--- a world with bytes put at a place
-abbrev pub with_bytes : World → Place → List ℕ → World
-with_bytes w p xs = record w { segments = slice_set w.segments p.segment (put_bytes (segment_of w.segments p.segment) p.at xs) }
+-- the groups, where one has these bytes of its own
+unfoldable pub with_own : List (List ℕ) → List Group → ℕ → List Group
+with_own own [] number = []
+with_own own (g ∷ gs) number = if g.number == number then record g { own = own } ∷ gs else g ∷ with_own own gs number
 
-abbrev pub put_at : World → Option Place → List ℕ → ℕ → Result World ℕ
-put_at w None xs cause = Err cause
-put_at w (Some p) xs cause = Ok (with_bytes w p xs)
+-- lists of bytes with others put into one of them
+abbrev pub put_into : List (List ℕ) → ℕ → ℕ → List ℕ → List (List ℕ)
+put_into bs k at xs = slice_set bs k (put_bytes (bytes_in bs k) at xs)
 
--- the word to run at an address, or the cause of a trap: 1 access fault, 12 page fault
-unfoldable pub fetch_world : World → ℕ → Result ℕ ℕ
-fetch_world w at = number_or (bytes_at w.segments (place_in (λ p. p.runs) (parts_in w) at 4) 4) (if w.plan.is_paged then 12 else 1)
+-- a world with bytes put where a group's windows show them
+abbrev pub put_home : World → ℕ → Home → ℕ → List ℕ → World
+put_home w number (Common k) at xs = record w { common = put_into w.common k at xs }
+put_home w number (Own k) at xs = record w { groups = with_own (put_into (group_of w.groups number).own k at xs) w.groups number }
 
--- the number of n bytes at an address, or the cause of a trap: 5 access fault, 13 page fault
-unfoldable pub load_world : World → ℕ → ℕ → Result ℕ ℕ
-load_world w at n = number_or (bytes_at w.segments (place_in (λ p. p.reads) (parts_in w) at n) n) (if w.plan.is_paged then 13 else 5)
+abbrev pub with_bytes : World → ℕ → Place → List ℕ → World
+with_bytes w number p xs = put_home w number p.home p.at xs
 
--- the world with the low n bytes of a number put at an address, or the cause of a trap: 7 access fault, 15 page fault
-unfoldable pub store_world : World → ℕ → ℕ → ℕ → Result World ℕ
-store_world w at n x = put_at w (place_in (λ p. p.writes) (parts_in w) at n) (to_le n x) (if w.plan.is_paged then 15 else 7)
+-- a byte is none of the pool's
+abbrev pub is_past : ℕ → Home → ℕ → Bool
+is_past pool (Common zero) at = nat_le pool at
+is_past pool (Common (suc k)) at = true
+is_past pool (Own k) at = true
+
+abbrev pub is_clear : ℕ → Option Place → Bool
+is_clear pool None = false
+is_clear pool (Some p) = is_past pool p.home p.at

@@ -1,22 +1,22 @@
-ghost use Rattle.std.specs.Prelude.{◌≡◌, ℕ, Ok, Bool, true, false};
+ghost use Rattle.std.specs.Prelude.{◌≡◌, ◌≢◌, ℕ, ◌<◌, Bool, true, false, length};
 ghost use Rattle.nx_base.specs.declared.kinds.Access.{Access};
-ghost use Rattle.nx_space.specs.World.{World, Plan, IsEntered, has_view, parts_of, parts_in};
-ghost use Rattle.nx_space.specs.Accesses.{store_world};
-ghost use Rattle.nx_space.specs.Good.{good_world};
-ghost use Rattle.nx_space.specs.Lawful.{OnlyEntered, AreParts};
-ghost use Rattle.nx_space.specs.Starts.{start_need, grow_need, started, but_outside};
+ghost use Rattle.nx_base.specs.Good.{is_good};
+ghost use Rattle.nx_space.specs.World.{World, Plan, Common, IsEntered, has_view, group_of, group_in, view_in, pool_of};
+ghost use Rattle.nx_space.specs.Lawful.{IsWorld, IsOutside, OnlyEntered, IsLeft};
+ghost use Rattle.nx_space.specs.Starts.{start_need, grow_need, free, started, grown, finished, but_outside};
 
-/// A law: accesses of the entered view, one after another, change nothing else.
+/// A law: accesses of the entered view, one after another, change nothing else, and no group's
+/// frames.
 pub fn accesses_change_the_entered_view_only()
     ensures none { (w : World) → OnlyEntered w w }
-    ensures store { (v w : World) (at n x : ℕ) → AreParts v.segments (parts_in v) → store_world v at n x ≡ Ok w → OnlyEntered v w }
     ensures more { (u v w : World) → OnlyEntered u v → OnlyEntered v w → OnlyEntered u w }
+    ensures frames { (v w : World) → OnlyEntered v w → free w ≡ free v }
 {}
 
 /// A law: a pointer that is good stays good, whatever is written through the entered view.
 pub fn what_is_good_stays_good()
     ensures entered { (v w : World) → OnlyEntered v w → IsEntered v → IsEntered w }
-    ensures good { (v w : World) (at n : ℕ) (a : Access) → OnlyEntered v w → good_world w at n a ≡ good_world v at n a }
+    ensures good { (v w : World) (at n : ℕ) (a : Access) → OnlyEntered v w → is_good (view_in w) at n a ≡ is_good (view_in v) at n a }
 {}
 
 /// A law: without pages no start and no stack needs a frame.
@@ -30,5 +30,23 @@ pub fn without_pages_nothing_needs_a_frame()
 pub fn a_started_group_has_a_view()
     ensures plan { (w new : World) (number program slot : ℕ) (fresh : Bool) → new ≡ but_outside (started w number program slot fresh) new → new.plan ≡ w.plan }
     ensures own { (w new : World) (number program slot : ℕ) (fresh : Bool) → new ≡ but_outside (started w number program slot fresh) new → has_view new.groups number ≡ true }
-    ensures others { (w new : World) (number program slot other : ℕ) (fresh : Bool) → new ≡ but_outside (started w number program slot fresh) new → has_view w.groups other ≡ true → (has_view new.groups other ≡ true) × (parts_of new.groups other ≡ parts_of w.groups other) }
+    ensures others { (w new : World) (number program slot other : ℕ) (fresh : Bool) → new ≡ but_outside (started w number program slot fresh) new → has_view w.groups other ≡ true → (has_view new.groups other ≡ true) × ((group_of new.groups other).parts ≡ (group_of w.groups other).parts) }
+{}
+
+/// A law: a start, a thread's stack and the end of a group leave each other group: its windows, what
+/// is good in its view, and with pages the whole view.
+pub fn the_other_groups_are_left()
+    ensures start { (w new : World) (number program slot other : ℕ) (fresh : Bool) → IsWorld w → program < length w.plan.programs → slot < w.plan.threads → new ≡ but_outside (started w number program slot fresh) new → has_view w.groups other ≡ true → other ≢ number → IsLeft w new other }
+    ensures stack { (w new : World) (number slot other : ℕ) → IsWorld w → has_view w.groups number ≡ true → slot < w.plan.threads → new ≡ but_outside (grown w number slot) new → has_view w.groups other ≡ true → other ≢ number → IsLeft w new other }
+    ensures end { (w new : World) (number other : ℕ) → new ≡ but_outside (finished w number) new → has_view w.groups other ≡ true → other ≢ number → IsLeft w new other }
+{}
+
+/// A law: starts, threads' stacks and ends leave the kernel's pool, and so do accesses where no
+/// window of the entered view lets it be written, as with pages none does.
+pub fn the_pool_stays()
+    ensures start { (w new : World) (number program slot : ℕ) (fresh : Bool) → IsWorld w → program < length w.plan.programs → slot < w.plan.threads → new ≡ but_outside (started w number program slot fresh) new → pool_of new ≡ pool_of w }
+    ensures stack { (w new : World) (number slot : ℕ) → IsWorld w → has_view w.groups number ≡ true → slot < w.plan.threads → new ≡ but_outside (grown w number slot) new → pool_of new ≡ pool_of w }
+    ensures end { (w new : World) (number : ℕ) → new ≡ but_outside (finished w number) new → pool_of new ≡ pool_of w }
+    ensures access { (v w : World) → OnlyEntered v w → ((i : ℕ) → i < v.plan.pool → IsOutside (group_in v).parts (Common 0) i) → pool_of w ≡ pool_of v }
+    ensures paged { (v w : World) → OnlyEntered v w → IsWorld v → IsEntered v → v.plan.is_paged ≡ true → pool_of w ≡ pool_of v }
 {}

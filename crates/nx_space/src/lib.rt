@@ -4,17 +4,17 @@
 
 mod flat;
 mod laws;
+mod shared;
 mod space;
-mod told;
 
-pub use flat::{FlatSpace, Live, RAM_START};
+pub use flat::FlatSpace;
 pub use laws::{
-    a_started_group_has_a_view, accesses_change_the_entered_view_only, what_is_good_stays_good,
-    without_pages_nothing_needs_a_frame,
+    a_started_group_has_a_view, accesses_change_the_entered_view_only, the_other_groups_are_left,
+    the_pool_stays, what_is_good_stays_good, without_pages_nothing_needs_a_frame,
 };
 pub use nx_base::Regs;
+pub use shared::{Live, RAM_START};
 pub use space::Space;
-pub use told::{fetch_told, good_told, load_told, peek_told, poke_told, store_told};
 
 #[cfg(test)]
 mod tests;

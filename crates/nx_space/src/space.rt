@@ -1,11 +1,12 @@
-ghost use Rattle.std.specs.Prelude.{◌≡◌, ℕ, ◌+◌, ◌*◌, ◌^◌, ◌<◌, ◌≤◌, ◌%◌, true, false, length, Ok, Err, MatchResult, IfOk, IfErr, OnOk, OnErr};
+ghost use Rattle.std.specs.Prelude.{◌≡◌, ℕ, ◌*◌, ◌^◌, ◌<◌, ◌≤◌, ◌%◌, true, false, length, Ok, Err, MatchResult, IfOk, IfErr, OnOk, OnErr};
 ghost use Rattle.nx_base.specs.declared.kinds.Access.TheVariants as access;
-ghost use Rattle.nx_space.specs.World.{World, IsEntered, has_view, parts_of, program_of};
+ghost use Rattle.nx_base.specs.ByteLists.{AreBytes};
+ghost use Rattle.nx_base.specs.Views.{fetch_word, load_bytes, store_bytes};
+ghost use Rattle.nx_base.specs.Good.{is_good};
 ghost use Rattle.nx_ram.specs.Widths.{IsWidth};
-ghost use Rattle.nx_space.specs.Accesses.{fetch_world, load_world, store_world};
-ghost use Rattle.nx_space.specs.Good.{good_world};
-ghost use Rattle.nx_space.specs.Lawful.{AreParts};
-ghost use Rattle.nx_space.specs.Starts.{start_regs, thread_regs, start_need, grow_need, started, grown, finished, but_outside};
+ghost use Rattle.nx_space.specs.World.{Home, World, IsEntered, has_view, view_in, seen_by};
+ghost use Rattle.nx_space.specs.Lawful.{IsWorld, OnlyEntered};
+ghost use Rattle.nx_space.specs.Starts.{program_of, start_regs, thread_regs, start_need, grow_need, free, started, grown, finished, but_outside};
 
 use nx_base::{Access, Regs};
 use nx_frames::TooFew;
@@ -13,14 +14,14 @@ use nx_frames::TooFew;
 /// The views of several groups, of which one is entered. A refused access answers the cause of its
 /// trap. RISC-V Privileged Architecture 1.12, section 3.1.15.
 pub trait Space {
-    /// All views, what they stand over, and the free frames.
+    /// All views, what they stand over, and the frames of each group.
     ghost world: { Self → World };
 
     /// The word to run at an address of the entered view.
     fn fetch(&mut self, at: u32) -> Result<u32, u8>
         requires entered { IsEntered (world self.old) }
         requires aligned { at % 4 ≡ 0 }
-        ensures answer { result ≡ fetch_world (world self.old) at }
+        ensures answer { result ≡ fetch_word (view_in (world self.old)) at }
         ensures same { world self.new ≡ world self.old };
 
     /// The number of `width` bytes at an address of the entered view, without a sign.
@@ -28,7 +29,7 @@ pub trait Space {
         requires entered { IsEntered (world self.old) }
         requires width { IsWidth width }
         requires aligned { at % width ≡ 0 }
-        ensures answer { result ≡ load_world (world self.old) at width }
+        ensures answer { result ≡ load_bytes (view_in (world self.old)) at width }
         ensures small { IfOk result (λ n. n < 2 ^ (8 * width)) }
         ensures same { world self.new ≡ world self.old };
 
@@ -39,29 +40,31 @@ pub trait Space {
         requires width { IsWidth width }
         requires aligned { at % width ≡ 0 }
         ensures answer { MatchResult result
-            (λ _. store_world (world self.old) at width value ≡ Ok (world self.new))
-            (λ cause. store_world (world self.old) at width value ≡ Err cause) }
+            (λ _. store_bytes (view_in (world self.old)) at width value ≡ Ok (view_in (world self.new)))
+            (λ cause. store_bytes (view_in (world self.old)) at width value ≡ Err cause) }
+        ensures only { OnlyEntered (world self.old) (world self.new) }
         ensures refused { OnErr result (world self.new ≡ world self.old) };
 
     /// Whether each of the `len` bytes at an address of the entered view may be used so, and none
-    /// lies past the last address. No bytes are good anywhere.
+    /// is a region's or lies past the last address. No bytes are good anywhere.
     fn good(&mut self, at: u32, len: u32, access: Access) -> bool
         requires entered { IsEntered (world self.old) }
-        ensures answer { result ≡ good_world (world self.old) at len access }
+        ensures answer { result ≡ is_good (view_in (world self.old)) at len access }
         ensures same { world self.new ≡ world self.old };
 
     /// The byte at an address that is good for loading.
     fn peek(&mut self, at: u32) -> u8
         requires entered { IsEntered (world self.old) }
-        requires good { good_world (world self.old) at 1 access.Load ≡ true }
-        ensures answer { load_world (world self.old) at 1 ≡ Ok result }
+        requires good { is_good (view_in (world self.old)) at 1 access.Load ≡ true }
+        ensures answer { load_bytes (view_in (world self.old)) at 1 ≡ Ok result }
         ensures same { world self.new ≡ world self.old };
 
     /// Writes the byte at an address that is good for storing, and no other byte of any view.
     fn poke(&mut self, at: u32, value: u8)
         requires entered { IsEntered (world self.old) }
-        requires good { good_world (world self.old) at 1 access.Store ≡ true }
-        ensures { store_world (world self.old) at 1 value ≡ Ok (world self.new) };
+        requires good { is_good (view_in (world self.old)) at 1 access.Store ≡ true }
+        ensures answer { store_bytes (view_in (world self.old)) at 1 value ≡ Ok (view_in (world self.new)) }
+        ensures only { OnlyEntered (world self.old) (world self.new) };
 
     /// Enters a group's view.
     fn enter(&mut self, group: u32)
@@ -78,8 +81,8 @@ pub trait Space {
         requires slot { slot < (world self.old).plan.threads }
         ensures regs { IfOk result (λ regs. regs ≡ start_regs (world self.old).plan prog slot) }
         ensures started { OnOk result (world self.new ≡ but_outside (started (world self.old) group prog slot fresh) (world self.new)) }
-        ensures enough { OnOk result (start_need (world self.old).plan prog slot ≤ (world self.old).free) }
-        ensures too_few { IfErr result (λ few. (few ≡ record { need = start_need (world self.old).plan prog slot; free = (world self.old).free }) × (few.free < few.need)) }
+        ensures enough { OnOk result (start_need (world self.old).plan prog slot ≤ free (world self.old)) }
+        ensures too_few { IfErr result (λ few. (few ≡ record { need = start_need (world self.old).plan prog slot; free = free (world self.old) }) × (few.free < few.need)) }
         ensures refused { OnErr result (world self.new ≡ world self.old) };
 
     /// Gives a group the stack of `slot`, set to zeros. This answers the registers of a new thread,
@@ -89,8 +92,8 @@ pub trait Space {
         requires slot { slot < (world self.old).plan.threads }
         ensures regs { IfOk result (λ regs. regs ≡ thread_regs (world self.old).plan (program_of (world self.old).groups group) slot) }
         ensures grown { OnOk result (world self.new ≡ but_outside (grown (world self.old) group slot) (world self.new)) }
-        ensures enough { OnOk result (grow_need (world self.old) group slot ≤ (world self.old).free) }
-        ensures too_few { IfErr result (λ few. (few ≡ record { need = grow_need (world self.old) group slot; free = (world self.old).free }) × (few.free < few.need)) }
+        ensures enough { OnOk result (grow_need (world self.old) group slot ≤ free (world self.old)) }
+        ensures too_few { IfErr result (λ few. (few ≡ record { need = grow_need (world self.old) group slot; free = free (world self.old) }) × (few.free < few.need)) }
         ensures refused { OnErr result (world self.new ≡ world self.old) };
 
     /// Takes a group's view away, and gives back what was its alone.
@@ -98,6 +101,9 @@ pub trait Space {
         requires { has_view (world self.old).groups group ≡ true }
         ensures { world self.new ≡ but_outside (finished (world self.old) group) (world self.new) };
 
-    /// The windows of each view lie in their segments, and apart.
-    ghost lawful: { (s : Self) (group : ℕ) → AreParts (world s).segments (parts_of (world s).groups group) };
+    /// What holds of every world.
+    ghost lawful: { (s : Self) → IsWorld (world s) };
+
+    /// What views show is bytes.
+    ghost bytes: { (s : Self) (group : ℕ) (home : Home) → AreBytes (seen_by (world s) group home) };
 }

@@ -1,4 +1,5 @@
-ghost use Rattle.std.specs.Prelude.{◌≡◌, [], true, length, IfOk};
+ghost use Rattle.std.specs.Prelude.{◌≡◌, ◌%◌, [], true, length, IfOk};
+ghost use Rattle.nx_ram.specs.Widths.{IsWidth};
 ghost use Rattle.nx_space.specs.World.{IsEntered, has_view};
 
 use super::*;
@@ -32,7 +33,7 @@ fn board(alloc: Global) -> Result<FlatSpace, AllocError>
 }
 
 // The same board, with the view of a group that has started.
-#[tactic(auto, unfolding(crate::specs::World::has_view), using(crate::proofs::Groups::started_has_view))]
+#[tactic(auto, unfolding(crate::specs::World::has_view), using(crate::proofs::Joins::started_has_view))]
 fn running(alloc: Global) -> Result<FlatSpace, AllocError>
     ensures entered { IfOk result (λ space. (⟦<FlatSpace as Space>⟧.world space).entered ≡ 7) }
     ensures view { IfOk result (λ space. has_view (⟦<FlatSpace as Space>⟧.world space).groups 7 ≡ true) }
@@ -47,8 +48,17 @@ fn running(alloc: Global) -> Result<FlatSpace, AllocError>
     Ok(space)
 }
 
+// Stores a number, and leaves the group entered.
+fn put(space: &mut FlatSpace, at: u32, width: u8, value: u32) -> Result<(), u8>
+    requires entered { IsEntered (⟦<FlatSpace as Space>⟧.world space.old) }
+    requires width { IsWidth width }
+    requires aligned { at % width ≡ 0 }
+    ensures { IsEntered (⟦<FlatSpace as Space>⟧.world space.new) }
+{
+    space.store(at, width, value)
+}
+
 #[test]
-#[tactic(auto, using(crate::proofs::Stays::entered_stays))]
 fn accesses_of_one_window(rt: HostRuntime) -> Result<(), Fail> {
     let mut space = running(rt.alloc())?;
     assert_eq!(rt; space.fetch(RAM_START), Ok(0x73));
@@ -56,14 +66,11 @@ fn accesses_of_one_window(rt: HostRuntime) -> Result<(), Fail> {
     assert_eq!(rt; space.load(RAM_START + 33, 1), Ok(2));
     assert_eq!(rt; space.load(RAM_START + 34, 2), Ok(0x0403));
     assert_eq!(rt; space.load(RAM_START + 128, 4), Err(5));
-    assert_eq!(rt;
-        store_told(&mut space, RAM_START + 34, 2, 0xAABBCCDD),
-        Ok(())
-    );
+    assert_eq!(rt; put(&mut space, RAM_START + 34, 2, 0xAABBCCDD), Ok(()));
     assert_eq!(rt; space.load(RAM_START + 32, 4), Ok(0xCCDD0201));
     assert_eq!(rt; space.load(RAM_START + 36, 4), Ok(0));
     assert_eq!(rt; space.load(RAM_START + 64, 4), Ok(0));
-    assert_eq!(rt; store_told(&mut space, 0x7FFFFFFC, 4, 1), Err(7));
+    assert_eq!(rt; put(&mut space, 0x7FFFFFFC, 4, 1), Err(7));
     assert_eq!(rt; space.good(0, 0, Access::Load), true);
     assert_eq!(rt; space.good(RAM_START, 128, Access::Fetch), true);
     assert_eq!(rt; space.good(RAM_START, 129, Access::Load), false);

@@ -1,9 +1,19 @@
-use Rattle.std.proofs.Common.{◌-◌, sym, ◌∙◌, ap, arith}
+use Rattle.std.proofs.Common.{◌-◌, refl, sym, ◌∙◌, ap, arith}
 use Rattle.nx_rv.proofs.Stretch.{stretch_more, stretch_over}
 use Rattle.nx_space.specs.World.{view_in}
-use Rattle.nx_space.proofs.Stores.{only_trans}
+use Rattle.nx_space.proofs.Stores.{only_refl, only_trans}
 use Rattle.nx_space.proofs.Stays.{entered_stays}
 use Rattle.nx_machine.proofs.machine.stretch.Goals as goal
+
+pub loop-regs-init : goal.loop-regs-init
+loop-regs-init g c = record {
+  entered = c.requires;
+  later = omega arith;
+  within = λ h. h;
+  limit = refl;
+  rest = refl;
+  only = only_refl (g.S.Space.world c.args.space.now);
+}
 
 pub loop-regs-preserved : goal.loop-regs-preserved
 loop-regs-preserved g c = record {
@@ -28,3 +38,9 @@ returns-clause-stretch g c =
     let counted = c.loop-regs-test.ensures.counted in
     let left = ap (λ s. s.limit - s.used) counted.1 in
     stretch_over (c.loop-regs.count.limit - c.loop-regs.count.used) (c.tick.new.self.limit - c.tick.new.self.used) c.loop-regs.regs (view_in (g.S.Space.world c.loop-regs.space)) (omega (arith, counted)) (omega (arith, counted, left)) ∙ c.loop-regs.invariant.rest
+
+pub returns-in-Calls-clause-only : goal.returns-in-Calls-clause-only
+returns-in-Calls-clause-only g c = only_trans _ _ _ c.loop-regs.invariant.only c.in-Calls.ensures.only
+
+pub returns-in-Traps-clause-only : goal.returns-in-Traps-clause-only
+returns-in-Traps-clause-only g c = only_trans _ _ _ c.loop-regs.invariant.only c.in-Traps.ensures.only

@@ -1,6 +1,6 @@
 use Rattle.std.proofs.Common.{◌≡◌, ◌∙◌, false, ap}
 use Rattle.nx_space.specs.World.{has_view}
-use Rattle.nx_space.proofs.Groups.{started_has_view}
+use Rattle.nx_space.proofs.Joins.{started_has_view}
 use Rattle.nx_machine.proofs.tests.run_words.Goals as goal
 
 pub enter-requires : goal.enter-requires

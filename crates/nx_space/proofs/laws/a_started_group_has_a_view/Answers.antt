@@ -1,4 +1,4 @@
-use Rattle.nx_space.proofs.Groups.{started_plan, started_has_view, others_have_views}
+use Rattle.nx_space.proofs.Joins.{started_plan, started_has_view, others_have_views}
 use Rattle.nx_space.proofs.laws.a_started_group_has_a_view.Goals as goal
 
 pub returns-clause-plan : goal.returns-clause-plan

@@ -1,6 +1,6 @@
 use Rattle.std.proofs.Common.{◌∙◌, true, ap}
 use Rattle.nx_space.specs.World.{has_view}
-use Rattle.nx_space.proofs.Groups.{started_has_view}
+use Rattle.nx_space.proofs.Joins.{started_has_view}
 use Rattle.nx_loop.proofs.board.Board.new.Goals as goal
 
 pub enter-requires : goal.enter-requires
