@@ -6,3 +6,6 @@ pub mod Puts
 pub mod RegisterLemmas
 pub mod Stores
 mod Outputs
+pub mod RangeLemmas
+pub mod Shapes
+pub mod WellFormed

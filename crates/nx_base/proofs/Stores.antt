@@ -31,7 +31,7 @@ holds-put : (w : Window) (i : ℕ) (xs : List ℕ) (b m : ℕ) → i + length xs
 unfolding holds
 holds-put w i xs b m h = ap (λ n. nat_le w.start b && nat_le (b + m) (w.start + n)) (length-put_bytes w.bytes i xs h)
 
-held_within : (w : Window) (a n : ℕ) → holds w a n ≡ true → (w.start ≤ a) × (a + n ≤ w.start + length w.bytes)
+pub held_within : (w : Window) (a n : ℕ) → holds w a n ≡ true → (w.start ≤ a) × (a + n ≤ w.start + length w.bytes)
 unfolding holds
 held_within w a n h = (grind (arith, nat_tests), grind (arith, nat_tests))
 

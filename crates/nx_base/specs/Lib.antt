@@ -1,10 +1,13 @@
 pub mod Arithmetic
 pub mod ByteLists
+pub mod Calls
+pub mod Copying
 pub mod Counted
 pub mod CursorAt
 pub mod ErrorNumbers
 pub mod Good
 pub mod KernelCalls
+pub mod Ranges
 pub mod Replies
 pub mod Registers
 pub mod TextBytes

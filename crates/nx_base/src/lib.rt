@@ -23,7 +23,10 @@ pub use count::Count;
 pub use cursor::Cursor;
 pub use errno::Errno;
 pub use kinds::{Access, AluOp, Build, Cond, Mode};
-pub use laws::{a_call_has_at_most_two_outputs, a_store_changes_its_bytes_alone};
+pub use laws::{
+    a_call_has_at_most_two_outputs, a_call_taken_from_a_view_is_well_formed,
+    a_delivery_leaves_the_windows, a_store_changes_its_bytes_alone, a_store_changes_its_range_alone,
+};
 pub use out_of_memory::OutOfMemory;
 pub use pages::PAGE_BYTES;
 pub use regs::Regs;

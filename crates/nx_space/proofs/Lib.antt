@@ -4,6 +4,7 @@ pub mod Windows
 pub mod Stores
 pub mod Goods
 pub mod Stays
+pub mod Others
 pub mod Starts
 pub mod Joins
 pub mod Growths

@@ -1,7 +1,7 @@
 ghost use Rattle.std.specs.Prelude.{◌≡◌, ◌≢◌, ℕ, ◌<◌, Bool, true, false, length};
 ghost use Rattle.nx_base.specs.declared.kinds.Access.{Access};
 ghost use Rattle.nx_base.specs.Good.{is_good};
-ghost use Rattle.nx_space.specs.World.{World, Plan, Common, IsEntered, has_view, group_of, group_in, view_in, pool_of};
+ghost use Rattle.nx_space.specs.World.{World, Plan, Common, IsEntered, has_view, group_of, group_in, view_of, view_in, pool_of};
 ghost use Rattle.nx_space.specs.Lawful.{IsWorld, IsOutside, OnlyEntered, IsLeft};
 ghost use Rattle.nx_space.specs.Starts.{start_need, grow_need, free, started, grown, finished, but_outside};
 
@@ -49,4 +49,11 @@ pub fn the_pool_stays()
     ensures end { (w new : World) (number : ℕ) → new ≡ but_outside (finished w number) new → pool_of new ≡ pool_of w }
     ensures access { (v w : World) → OnlyEntered v w → ((i : ℕ) → i < v.plan.pool → IsOutside (group_in v).parts (Common 0) i) → pool_of w ≡ pool_of v }
     ensures paged { (v w : World) → OnlyEntered v w → IsWorld v → IsEntered v → v.plan.is_paged ≡ true → pool_of w ≡ pool_of v }
+{}
+
+/// A law: a group sees all of what another writes, or nothing of it. Without pages all groups have
+/// one view; with pages no other group sees what is written through the entered view.
+pub fn a_group_sees_all_of_a_write_or_nothing()
+    ensures shared { (w : World) (g h : ℕ) → IsWorld w → w.plan.is_paged ≡ false → has_view w.groups g ≡ true → has_view w.groups h ≡ true → view_of w g ≡ view_of w h }
+    ensures paged { (v w : World) (h : ℕ) → IsWorld v → v.plan.is_paged ≡ true → OnlyEntered v w → has_view v.groups h ≡ true → h ≢ v.entered → view_of w h ≡ view_of v h }
 {}
