@@ -3,12 +3,12 @@ use Rattle.std.proofs.Common.{◌≡◌, ◌≢◌, ℕ, suc, ◌+◌, ◌-◌, 
 use Rattle.std.specs.Prelude.{slice_set}
 use Rattle.std.proofs.lemmas.List.{length-set, length-append}
 use Rattle.nx_frames.specs.declared.frames.Taken.{Taken}
-use Rattle.nx_frames.specs.Chains.{address, chain, behind, Each, AreOnce, AreApart, IsFrame}
+use Rattle.nx_frames.specs.Chains.{address, chain, frame_after, Each, AreOnce, AreApart, IsFrame}
 use Rattle.nx_frames.specs.Zeros.{AreZeroed}
 use Rattle.nx_frames.specs.Stock.{Stock, AreStocked, Holds, Keeps, Takes}
 use Rattle.nx_frames.proofs.Lists.{each_append, each_parts, apart_sym, apart_append, apart_parts, once_append, once_left, once_right, once_apart}
 use Rattle.nx_frames.proofs.Counts.{few_frames}
-use Rattle.nx_frames.proofs.Chains.{length-chain, chain_more, chain_stays, behind_stays, last_apart, last_below, linked, linked_last}
+use Rattle.nx_frames.proofs.Chains.{length-chain, chain_more, chain_stays, after_stays, last_apart, last_below, linked, linked_last}
 
 abbrev pub stock : ℕ → List ℕ → List ℕ → Stock
 stock first next free = record { first = first; next = next; free = free }
@@ -25,7 +25,7 @@ keeps_link first next tail to free after u h ne apart =
         frames = subst (Each (IsFrame first (length (slice_set next tail to)))) (sym e) (each_set first next tail to (chain first next u.head u.count) h.frames);
         once = subst AreOnce (sym e) h.once;
         apart = subst (λ xs. AreApart xs after) (sym e) apart;
-        last = λ one. let s : u.count ≡ suc (u.count - 1) = omega (arith, one) in h.last one ∙ sym (behind_stays first next tail to u.head (u.count - 1) (subst (λ k. Each (λ a. a ≢ address first tail) (chain first next u.head k)) s ne));
+        last = λ one. let s : u.count ≡ suc (u.count - 1) = omega (arith, one) in h.last one ∙ sym (after_stays first next tail to u.head (u.count - 1) (subst (λ k. Each (λ a. a ≢ address first tail) (chain first next u.head k)) s ne));
       };
       frames = e;
     }
@@ -72,7 +72,7 @@ give_few first next head free t s h =
     let f = s.fits in
     omega (arith, n, a, b, f)
 
--- joined, the frames of the second stand behind those of the first
+-- joined, the frames of the second stand after those of the first
 pub join_frames : (first : ℕ) (next free : List ℕ) (t m : Taken) → Holds (stock first next free) t → 1 ≤ t.count → AreApart (chain first next t.head t.count) (chain first next m.head m.count) → chain first (slice_set next t.tail m.head) t.head (t.count + m.count) ≡ chain first next t.head t.count ++ chain first next m.head m.count
 join_frames first next free t m h one apart =
     linked first next t.tail m.head t.head t.count m.count one (tail_below first next free t h one) h.once (h.last one) apart
@@ -118,12 +118,12 @@ join_few first next free t m f h k apart =
     omega (arith, n, a, b, f)
 
 -- the first free frames, and those that are left
-pub take_order : (first : ℕ) (next : List ℕ) (head free n at : ℕ) → n ≤ free → at ≡ behind next head n → chain first next head free ≡ chain first next head n ++ chain first next at (free - n)
+pub take_order : (first : ℕ) (next : List ℕ) (head free n at : ℕ) → n ≤ free → at ≡ frame_after next head n → chain first next head free ≡ chain first next head n ++ chain first next at (free - n)
 take_order first next head free n at l e =
     let s : free ≡ n + (free - n) = omega (arith, l) in
     ap (chain first next head) s ∙ chain_more first next head n (free - n) ∙ ap (λ k. chain first next head n ++ chain first next k (free - n)) (sym e)
 
-pub take_stocked : (first : ℕ) (next : List ℕ) (head free n at : ℕ) → n ≤ free → at ≡ behind next head n → AreStocked first next (chain first next head free) → AreStocked first next (chain first next at (free - n))
+pub take_stocked : (first : ℕ) (next : List ℕ) (head free n at : ℕ) → n ≤ free → at ≡ frame_after next head n → AreStocked first next (chain first next head free) → AreStocked first next (chain first next at (free - n))
 take_stocked first next head free n at l e s =
     let o = take_order first next head free n at l e in
     record {
@@ -133,7 +133,7 @@ take_stocked first next head free n at l e s =
       fits = s.fits;
     }
 
-pub takes : (first : ℕ) (next : List ℕ) (head free n at tail : ℕ) (ram after : List ℕ) → n ≤ free → at ≡ behind next head n → (1 ≤ n → tail ≡ behind next head (n - 1)) → AreStocked first next (chain first next head free) → AreZeroed ram after (chain first next head n) → Takes (stock first next (chain first next head free)) (stock first next (chain first next at (free - n))) ram after n (record { head = head; tail = tail; count = n })
+pub takes : (first : ℕ) (next : List ℕ) (head free n at tail : ℕ) (ram after : List ℕ) → n ≤ free → at ≡ frame_after next head n → (1 ≤ n → tail ≡ frame_after next head (n - 1)) → AreStocked first next (chain first next head free) → AreZeroed ram after (chain first next head n) → Takes (stock first next (chain first next head free)) (stock first next (chain first next at (free - n))) ram after n (record { head = head; tail = tail; count = n })
 takes first next head free n at tail ram after l e last s zeroed =
     let o = take_order first next head free n at l e in
     let ts = chain first next head n in

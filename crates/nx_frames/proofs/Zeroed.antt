@@ -5,7 +5,7 @@ use Rattle.std.proofs.lemmas.List.{length-set, length-replicate, get_or-set_same
 use Rattle.std.proofs.lemmas.Bool.{cases_lt}
 use Rattle.nx_base.specs.ByteLists.{put_bytes}
 use Rattle.nx_base.proofs.Puts.{get-put_bytes_other}
-use Rattle.nx_frames.specs.Chains.{address, chain, behind}
+use Rattle.nx_frames.specs.Chains.{address, chain, frame_after}
 use Rattle.nx_frames.specs.Zeros.{ram_start, IsZeroed, AreZeroed}
 use Rattle.nx_frames.proofs.Lists.{each_as, each_append, each_parts}
 use Rattle.nx_frames.proofs.Chains.{chain_more}
@@ -54,7 +54,7 @@ still_zeroed old new place x z others h k l =
     (cases_lt at (place + 4096)))
     (cases_lt at place)
 
-pub zeroed_more : (before old new : List ℕ) (first : ℕ) (next : List ℕ) (head i at place : ℕ) → ram_start ≤ first → at ≡ behind next head i → place ≡ first - ram_start + 4096 * at → AreZeroed before old (chain first next head i) → ((k : ℕ) → k < 4096 → slice_index new (place + k) ≡ 0) → ((k : ℕ) → (k < place) ⊎ (place + 4096 ≤ k) → slice_index new k ≡ slice_index old k) → length new ≡ length old → AreZeroed before new (chain first next head (i + 1))
+pub zeroed_more : (before old new : List ℕ) (first : ℕ) (next : List ℕ) (head i at place : ℕ) → ram_start ≤ first → at ≡ frame_after next head i → place ≡ first - ram_start + 4096 * at → AreZeroed before old (chain first next head i) → ((k : ℕ) → k < 4096 → slice_index new (place + k) ≡ 0) → ((k : ℕ) → (k < place) ⊎ (place + 4096 ≤ k) → slice_index new k ≡ slice_index old k) → length new ≡ length old → AreZeroed before new (chain first next head (i + 1))
 unfolding chain
 zeroed_more before old new first next head i at place low e p a z others long =
     let f : address first at - ram_start ≡ place = omega (arith, low, p) in

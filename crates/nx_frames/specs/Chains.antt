@@ -10,10 +10,10 @@ unfoldable pub chain : ℕ → List ℕ → ℕ → ℕ → List ℕ
 chain first next head zero = []
 chain first next head (suc n) = address first head ∷ chain first next (slice_index next head) n
 
--- the frame that is n steps behind one
-unfoldable pub behind : List ℕ → ℕ → ℕ → ℕ
-behind next head zero = head
-behind next head (suc n) = behind next (slice_index next head) n
+-- the frame that is n steps after one
+unfoldable pub frame_after : List ℕ → ℕ → ℕ → ℕ
+frame_after next head zero = head
+frame_after next head (suc n) = frame_after next (slice_index next head) n
 
 -- a fact of each
 abbrev pub Each : (ℕ → Type 0) → List ℕ → Type 0

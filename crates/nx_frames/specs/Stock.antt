@@ -1,7 +1,7 @@
 -- Frames that are free and frames that were taken.
 use Rattle.std.specs.Prelude.{◌≡◌, ℕ, zero, suc, ◌+◌, ◌-◌, ◌*◌, ◌^◌, ◌≤◌, List, [], ◌∷◌, ◌++◌, length}
 use Rattle.nx_frames.specs.declared.frames.Taken.{Taken}
-use Rattle.nx_frames.specs.Chains.{chain, behind, Each, AreOnce, AreApart, IsFrame}
+use Rattle.nx_frames.specs.Chains.{chain, frame_after, Each, AreOnce, AreApart, IsFrame}
 use Rattle.nx_frames.specs.Zeros.{ram_start, AreZeroed}
 
 -- frames as contracts see them: the address of the first, which frame follows each in its chain, and the addresses of the free ones
@@ -14,7 +14,7 @@ pub record Stock : Type 0 where
 abbrev pub frames_of : Stock → Taken → List ℕ
 frames_of s t = chain s.first s.next t.head t.count
 
--- what holds of all frames: the free ones are frames of the stock, each once, and all lie behind the RAM's start
+-- what holds of all frames: the free ones are frames of the stock, each once, and none lies before the RAM
 pub record AreStocked (first : ℕ) (next : List ℕ) (free : List ℕ) : Type 0 where
   pub frames : Each (IsFrame first (length next)) free
   pub once : AreOnce free
@@ -26,7 +26,7 @@ pub record Holds (s : Stock) (t : Taken) : Type 0 where
   pub frames : Each (IsFrame s.first (length s.next)) (frames_of s t)
   pub once : AreOnce (frames_of s t)
   pub apart : AreApart (frames_of s t) s.free
-  pub last : 1 ≤ t.count → t.tail ≡ behind s.next t.head (t.count - 1)
+  pub last : 1 ≤ t.count → t.tail ≡ frame_after s.next t.head (t.count - 1)
 
 -- a change of the stock leaves what was taken as it is
 pub record Keeps (old new : Stock) (t : Taken) : Type 0 where

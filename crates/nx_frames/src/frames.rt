@@ -52,7 +52,7 @@ impl Model for Frames {
 }
 
 impl Frames {
-    /// `count` frames from an address of the RAM on, all of them free.
+    /// `count` frames from an address of the RAM on, all of them free. They end at 2^32 at the latest.
     pub fn new(alloc: Global, first: u32, count: u32) -> Result<Frames, AllocError>
         requires low { ram_start ≤ first }
         requires fits { first + 4096 * count ≤ 2 ^ 32 }
@@ -78,7 +78,8 @@ impl Frames {
     }
 
     /// Takes the first `n` frames that are free, sets them to zeros, and changes no other byte of the
-    /// RAM. Exactly where more frames are needed than are free, nothing changes.
+    /// RAM, in which all frames must lie. Exactly where more frames are needed than are free, it
+    /// answers how many these are, and nothing changes.
     pub fn take(&mut self, ram: &mut Ram, n: u32) -> Result<Taken, TooFew>
         requires { LieInside self.old (length ram.old) }
         ensures taken { IfOk result (λ t. Takes self.old self.new ram.old ram.new n t) }
@@ -110,7 +111,7 @@ impl Frames {
         })
     }
 
-    /// Gives frames back. They become free, before those that are free already.
+    /// Gives frames back that came from here. They become free, before those that are free already.
     pub fn give(&mut self, taken: Taken)
         requires { Holds self.old taken }
         ensures free { self.new.free ≡ frames_of self.old taken ++ self.old.free }
@@ -125,7 +126,8 @@ impl Frames {
         }
     }
 
-    /// The address of the `i`-th frame, counted from 0, of those that were taken.
+    /// The address of the `i`-th frame, counted from 0, of those that were taken here. It takes `i`
+    /// steps along their chain.
     pub fn frame(&self, taken: &Taken, i: u32) -> u32
         requires held { Holds self.now taken.now }
         requires below { i < taken.now.count }
@@ -138,7 +140,7 @@ impl Frames {
         self.first + 4096 * at
     }
 
-    /// Puts the frames of `more` after those of `into`.
+    /// Puts the frames of `more` after those of `into`. Both came from here, and have no frame in common.
     pub fn join(&mut self, into: &mut Taken, more: Taken)
         requires into { Holds self.old into.old }
         requires more { Holds self.old more }

@@ -5,7 +5,7 @@ use Rattle.nx_base.specs.declared.kinds.Mode.{Mode}
 use Rattle.nx_pmp.specs.declared.pmp.PmpEntry.{PmpEntry}
 use Rattle.nx_pmp.specs.Protection.{rules_from, decided, permits, is_machine, any_byte, all_bytes, entry_at, range_at}
 
--- the ranges of the entries behind the first
+-- the ranges of the entries after the first
 range_more : (first : ℕ) (e : PmpEntry) (es : List PmpEntry) (j : ℕ) → range_at e.addr es j ≡ range_at first (e ∷ es) (suc j)
 range_more first e es zero = refl
 range_more first e es (suc j) = refl

@@ -31,7 +31,7 @@ const ENTRIES: [(u32, u32); 23] = [
     (0x1010, 0x2000089F), // all but A and G
     (0x1014, 0x200008CF), // all but U and G
     (0x1018, 0x20000801), // to a table
-    (0x101C, 0x20000CDF), // a page behind the RAM
+    (0x101C, 0x20000CDF), // a page after the RAM
     (0x1020, 0x200008DE), // V clear
     (0x1024, 0x200008DD), // R clear, W set
     (0x1028, 0x1FFFFCDF), // a page before the RAM
