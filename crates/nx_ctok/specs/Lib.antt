@@ -1,0 +1,12 @@
+pub mod FaultTexts
+pub mod Spellings
+pub mod Scanning
+pub mod Longest
+pub mod Comments
+pub mod Predefined
+pub mod Directives
+pub mod Tokens
+pub mod Answers
+pub mod Views
+pub mod Reading
+pub mod Values

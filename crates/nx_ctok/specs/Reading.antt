@@ -1,0 +1,33 @@
+-- How far a text is read.
+use Rattle.std.specs.Prelude.{◌≡◌, ℕ, ◌+◌, ◌<◌, ◌≤◌, List, ◌++◌, length, Result, Err}
+use Rattle.nx_ctok.specs.declared.fault.CFault.{CFault}
+use Rattle.nx_ctok.specs.declared.fault.CFault.TheVariants as fault
+use Rattle.nx_ctok.specs.declared.token.Token.{Token}
+use Rattle.nx_ctok.specs.declared.reader.Reader.{Reader}
+use Rattle.nx_ctok.specs.Comments.{newlines, line_at}
+use Rattle.nx_ctok.specs.Tokens.{Gives, Reads, ahead}
+use Rattle.nx_ctok.specs.Views.{values_in}
+
+-- What the rest of a text gives from here on.
+abbrev pub GivesFrom : List ℕ → Reader → List ℕ → Result (List Token) CFault → Type 0
+GivesFrom text r rest out = Gives text r.fresh (values_in r.table) rest out
+
+-- From one place to the next: what the text gives from the next place on, it gives behind these tokens from the first.
+pub record Follows (old : Reader) (rest : List ℕ) (new : Reader) (behind : List ℕ) : Type 0 where
+  pub found : List Token
+  pub is : new.found.items ≡ old.found.items ++ found
+  pub line : new.line + newlines behind ≡ old.line + newlines rest
+  pub later : old.line ≤ new.line
+  pub less : length behind < length rest
+  pub gives : (text : List ℕ) → old.line ≡ line_at text rest → (out : Result (List Token) CFault) → GivesFrom text new behind out → GivesFrom text old rest (ahead found out)
+
+-- The text is refused here; want of memory is free.
+abbrev pub IsRefused : CFault → Reader → List ℕ → Type 0
+IsRefused fault.Memory r rest = Unit {0}
+IsRefused (fault.Text line kind) r rest = (text : List ℕ) → r.line ≡ line_at text rest → GivesFrom text r rest (Err (fault.Text line kind))
+
+-- From the start to a place.
+pub record Reached (text : List ℕ) (r : Reader) (rest : List ℕ) : Type 0 where
+  pub first : 1 ≤ r.line
+  pub line : r.line + newlines rest ≡ 1 + newlines text
+  pub gives : (out : Result (List Token) CFault) → GivesFrom text r rest out → Reads text (ahead r.found.items out)
