@@ -53,36 +53,36 @@ fitting call (Some kinds) = if fits call kinds then Some kinds else None
 
 -- the kinds of a row's parameters: each is a word where the kernel lacks the call; else they are by their types, and the row gives no pointer
 unfoldable pub kinds_in : Option KCall → CallType → List CallType → Option (List Kind)
-kinds_in None given types = Some (map (λ t. Word) types)
-kinds_in (Some call) given types = if has_star given.actual then None else fitting call (kinds_of types)
+kinds_in None return_type types = Some (map (λ t. Word) types)
+kinds_in (Some call) return_type types = if has_star return_type.actual then None else fitting call (kinds_of types)
 
 -- a row of these kinds after others: the numbers begin with 16, and there are at most 512
 abbrev pub numbered : List CallRow → List ℕ → CallType → Option (List Kind) → Verdict
-numbered rows name given None = Err Signature
-numbered rows name given (Some kinds) =
+numbered rows name return_type None = Err Signature
+numbered rows name return_type (Some kinds) =
     if nat_lt (length rows) 512
     then Ok (Some (record {
       name = name;
       number = 16 + length rows;
       kinds = record { items = kinds };
-      returns = not (bytes_eq given.actual (codes "void"));
+      returns = not (bytes_eq return_type.actual (codes "void"));
       kernel = call_named name;
     }))
     else Err Limit
 
 -- a row of these types after others
 unfoldable pub typed : List CallRow → List ℕ → CallType → List CallType → Verdict
-typed rows name given types =
-    if is_bad given || list_any is_bad types then Err BadType
+typed rows name return_type types =
+    if is_bad return_type || list_any is_bad types then Err BadType
     else if nat_lt 6 (length types) then Err TooManyParameters
     else if list_any (λ row. bytes_eq name row.name) rows then Err NameTwice
-    else numbered rows name given (kinds_in (call_named name) given types)
+    else numbered rows name return_type (kinds_in (call_named name) return_type types)
 
 -- a row of this return type and these parameters, as fields, after others
 unfoldable pub declared_row : List CallRow → List ℕ → List ℕ → List (List ℕ) → Verdict
-declared_row rows name given types =
-    if is_union given || list_any is_union types then Err UnionType
-    else typed rows name (type_of given) (map type_of types)
+declared_row rows name return_type types =
+    if is_union return_type || list_any is_union types then Err UnionType
+    else typed rows name (type_of return_type) (map type_of types)
 
 -- what holds of the kinds of a row: they are those of the kernel's call, or all words where it has none
 abbrev pub HasKinds : Option KCall → List Kind → Type 0
@@ -108,11 +108,11 @@ IsNoCondition text = length text ≤ 1024 → (a : Condition) → IsCondition te
 -- what the fields of a row say after other rows: name, header, condition, return type, parameters
 pub data Says (means : List ℕ → Option Meaning) (rows : List CallRow) : List (List ℕ) → Verdict → Type 0 where
   FewerFields : (fields : List (List ℕ)) → length fields < 4 → Says means rows fields (Err FewFields)
-  NoName : (name header condition given : List ℕ) (types : List (List ℕ)) → is_c_name name ≡ false →
-      Says means rows (name ∷ header ∷ condition ∷ given ∷ types) (Err BadName)
-  NoCondition : (name header condition given : List ℕ) (types : List (List ℕ)) → is_c_name name ≡ true → IsNoCondition condition →
-      Says means rows (name ∷ header ∷ condition ∷ given ∷ types) (Err BadCondition)
-  Left : (name header condition given : List ℕ) (types : List (List ℕ)) → is_c_name name ≡ true → IsWorth means condition false →
-      Says means rows (name ∷ header ∷ condition ∷ given ∷ types) (Ok None)
-  Taken : (name header condition given : List ℕ) (types : List (List ℕ)) → is_c_name name ≡ true → IsWorth means condition true →
-      Says means rows (name ∷ header ∷ condition ∷ given ∷ types) (declared_row rows name given (parameters types))
+  NoName : (name header condition return_type : List ℕ) (types : List (List ℕ)) → is_c_name name ≡ false →
+      Says means rows (name ∷ header ∷ condition ∷ return_type ∷ types) (Err BadName)
+  NoCondition : (name header condition return_type : List ℕ) (types : List (List ℕ)) → is_c_name name ≡ true → IsNoCondition condition →
+      Says means rows (name ∷ header ∷ condition ∷ return_type ∷ types) (Err BadCondition)
+  Left : (name header condition return_type : List ℕ) (types : List (List ℕ)) → is_c_name name ≡ true → IsWorth means condition false →
+      Says means rows (name ∷ header ∷ condition ∷ return_type ∷ types) (Ok None)
+  Taken : (name header condition return_type : List ℕ) (types : List (List ℕ)) → is_c_name name ≡ true → IsWorth means condition true →
+      Says means rows (name ∷ header ∷ condition ∷ return_type ∷ types) (declared_row rows name return_type (parameters types))

@@ -7,14 +7,23 @@ use thiserror::Error;
 #[derive(Clone, Copy, Debug, PartialEq, Eq, Error)]
 #[error("{text}", text = self.text())]
 pub enum CallsKind {
+    /// Fewer than four fields.
     FewFields,
+    /// The name is no C name of 1 to 64 bytes.
     BadName,
+    /// The condition has no reading, or more than 1,024 bytes.
     BadCondition,
+    /// A type with two bars or more.
     UnionType,
+    /// A type, or a part of one, that is empty.
     BadType,
+    /// More than six parameters.
     TooManyParameters,
+    /// A row of a true condition before it has the name.
     NameTwice,
+    /// The kernel's call of the name has other kinds, or the return type is a pointer.
     Signature,
+    /// More than 512 rows of a true condition.
     Limit,
 }
 
@@ -43,12 +52,12 @@ pub enum CallsFault {
     /// The table is refused at a record, counted from 1.
     #[error("{row}: {kind}")]
     Text { row: u32, kind: CallsKind },
-    /// There was no memory.
-    #[error("no memory")]
+    /// There is no memory for it.
+    #[error("out of memory")]
     Memory,
 }
 
-// Why a row was not read.
+/// Why a row was not read.
 #[derive(Clone, Copy, Debug, Drop)]
 pub enum RowStop {
     Memory,

@@ -64,11 +64,11 @@ fn said<M: Meanings>(
     rows: &[CallRow],
     name: &[u8],
     condition: &[u8],
-    given: &[u8],
+    return_type: &[u8],
     types: &[&[u8]],
     meanings: &M,
 ) -> Result<Option<CallRow>, RowStop>
-    ensures { (header : List ℕ) → IsSaid (M.meaning meanings.now) rows.now (name.now ∷ header ∷ condition.now ∷ given.now ∷ map (λ f. f.now) types.now) result }
+    ensures { (header : List ℕ) → IsSaid (M.meaning meanings.now) rows.now (name.now ∷ header ∷ condition.now ∷ return_type.now ∷ map (λ f. f.now) types.now) result }
 {
     if !is_c_name(name) {
         return Err(RowStop::Fault(CallsKind::BadName));
@@ -78,7 +78,7 @@ fn said<M: Meanings>(
         Err(ConditionStop::Bad) => Err(RowStop::Fault(CallsKind::BadCondition)),
         Ok(false) => Ok(None),
         Ok(true) => match parameters(alloc, types) {
-            Ok(types) => declared_row(alloc, rows, name, given, &types),
+            Ok(types) => declared_row(alloc, rows, name, return_type, &types),
             Err(_) => Err(RowStop::Memory),
         },
     }
@@ -94,8 +94,8 @@ pub(crate) fn judge<M: Meanings>(
     ensures { IsSaid (M.meaning meanings.now) rows.now (map (λ f. f.now) fields.now) result }
 {
     match fields {
-        [name, _, condition, given, types @ ..] => {
-            said(alloc, rows, name, condition, given, types, meanings)
+        [name, _, condition, return_type, types @ ..] => {
+            said(alloc, rows, name, condition, return_type, types, meanings)
         }
         _ => Err(RowStop::Fault(CallsKind::FewFields)),
     }

@@ -19,4 +19,6 @@ pub use row::{CallRow, ROWS};
 pub use types::CallType;
 
 #[cfg(test)]
+mod cases;
+#[cfg(test)]
 mod tests;

@@ -21,12 +21,20 @@ use std::alloc::{AllocError, Global};
 /// How many rows of a true condition there may be.
 pub const ROWS: usize = 512;
 
+/// The number of the first row of a true condition.
+const FIRST_NUMBER: u16 = 16;
+
+/// How many parameters a call has at most.
+const PARAMETERS: usize = 6;
+
 /// A row of the call table whose condition is true.
 #[derive(Debug, Drop)]
 pub struct CallRow {
+    /// The name of the call, a name of C of at most 64 bytes.
     pub name: Bytes,
-    /// 16 plus its place among such rows.
+    /// 16 plus its place among such rows, from 0.
     pub number: u16,
+    /// The kinds of its parameters, in their order.
     pub kinds: ArrayVec<Kind, 6>,
     /// Whether its return type isn't `void`.
     pub returns: bool,
@@ -82,14 +90,14 @@ fn words(types: &[CallType]) -> ArrayVec<Kind, 6>
 }
 
 #[tactic(auto, unfolding(crate::specs::Rows::kinds_in))]
-fn kinds_in(call: Option<KCall>, given: &CallType, types: &[CallType]) -> Option<ArrayVec<Kind, 6>>
+fn kinds_in(call: Option<KCall>, return_type: &CallType, types: &[CallType]) -> Option<ArrayVec<Kind, 6>>
     requires { length types.now ≤ 6 }
-    ensures { option_map (λ kinds. kinds.items) result ≡ kinds_in_row call given.now types.now }
+    ensures { option_map (λ kinds. kinds.items) result ≡ kinds_in_row call return_type.now types.now }
 {
     match call {
         None => Some(words(types)),
         Some(call) => {
-            if has_star(given.actual.as_slice()) {
+            if has_star(return_type.actual.as_slice()) {
                 return None;
             }
             let kinds = kinds_of(types)?;
@@ -101,21 +109,21 @@ fn kinds_in(call: Option<KCall>, given: &CallType, types: &[CallType]) -> Option
     }
 }
 
-fn is_void(given: &CallType) -> bool
-    ensures { result ≡ bytes_eq given.now.actual (codes "void") }
+fn is_void(return_type: &CallType) -> bool
+    ensures { result ≡ bytes_eq return_type.now.actual (codes "void") }
 {
-    given.actual.as_slice() == b"void".as_slice()
+    return_type.actual.as_slice() == b"void".as_slice()
 }
 
-/// A row of these kinds behind others.
+/// A row of these kinds after others.
 fn numbered(
     alloc: Global,
     rows: &[CallRow],
     name: &[u8],
-    given: &CallType,
+    return_type: &CallType,
     kinds: Option<ArrayVec<Kind, 6>>,
 ) -> Result<Option<CallRow>, RowStop>
-    ensures { IsVerdict result (numbered_row rows.now name.now given.now (option_map (λ ks. ks.items) kinds)) }
+    ensures { IsVerdict result (numbered_row rows.now name.now return_type.now (option_map (λ ks. ks.items) kinds)) }
 {
     let Some(kinds) = kinds else {
         return Err(RowStop::Fault(CallsKind::Signature));
@@ -124,11 +132,11 @@ fn numbered(
         return Err(RowStop::Fault(CallsKind::Limit));
     }
     let kernel = KCall::named(name);
-    let returns = !is_void(given);
+    let returns = !is_void(return_type);
     match Bytes::from_slice(alloc, name) {
         Ok(name) => Ok(Some(CallRow {
             name,
-            number: 16 + rows.len() as u16,
+            number: FIRST_NUMBER + rows.len() as u16,
             kinds,
             returns,
             kernel,
@@ -137,28 +145,28 @@ fn numbered(
     }
 }
 
-/// A row of these types behind others.
+/// A row of these types after others.
 #[tactic(auto, unfolding(crate::specs::Rows::typed))]
 fn typed(
     alloc: Global,
     rows: &[CallRow],
     name: &[u8],
-    given: &CallType,
+    return_type: &CallType,
     types: &[CallType],
 ) -> Result<Option<CallRow>, RowStop>
-    ensures { IsVerdict result (typed_row rows.now name.now given.now types.now) }
+    ensures { IsVerdict result (typed_row rows.now name.now return_type.now types.now) }
 {
-    if given.has_empty_part() || any_bad(types) {
+    if return_type.has_empty_part() || any_bad(types) {
         return Err(RowStop::Fault(CallsKind::BadType));
     }
-    if types.len() > 6 {
+    if types.len() > PARAMETERS {
         return Err(RowStop::Fault(CallsKind::TooManyParameters));
     }
     if has_name(rows, name) {
         return Err(RowStop::Fault(CallsKind::NameTwice));
     }
-    let kinds = kinds_in(KCall::named(name), given, types);
-    numbered(alloc, rows, name, given, kinds)
+    let kinds = kinds_in(KCall::named(name), return_type, types);
+    numbered(alloc, rows, name, return_type, kinds)
 }
 
 /// The types of these fields.
@@ -173,25 +181,25 @@ fn types_of(alloc: Global, fields: &[&[u8]]) -> Result<Vec<CallType>, AllocError
     Ok(types)
 }
 
-/// A row of this return type and these parameters behind others.
+/// A row of this return type and these parameters after others.
 #[tactic(auto, unfolding(crate::specs::Rows::declared_row))]
 pub(crate) fn declared_row(
     alloc: Global,
     rows: &[CallRow],
     name: &[u8],
-    given: &[u8],
+    return_type: &[u8],
     types: &[&[u8]],
 ) -> Result<Option<CallRow>, RowStop>
-    ensures { IsVerdict result (declared_row_of rows.now name.now given.now (map (λ f. f.now) types.now)) }
+    ensures { IsVerdict result (declared_row_of rows.now name.now return_type.now (map (λ f. f.now) types.now)) }
 {
-    if is_union(given) || any_union(types) {
+    if is_union(return_type) || any_union(types) {
         return Err(RowStop::Fault(CallsKind::UnionType));
     }
-    let Ok(given) = CallType::of(alloc, given) else {
+    let Ok(return_type) = CallType::of(alloc, return_type) else {
         return Err(RowStop::Memory);
     };
     let Ok(types) = types_of(alloc, types) else {
         return Err(RowStop::Memory);
     };
-    typed(alloc, rows, name, &given, &types)
+    typed(alloc, rows, name, &return_type, &types)
 }

@@ -1,18 +1,61 @@
 use super::*;
-use nx_base::{KCall, Kind};
+use nx_base::{Bytes, KCall, Kind};
 use nx_config::read_config;
-use std::alloc::Global;
+use std::alloc::{AllocError, Global};
 use std::test::Fail;
 
-/// What reading a table gives under `A=y`, `N=5` and `T="x"`.
+/// What reading a table gives under `A=y`, `N=5`, `M=-3` and `T="x"`.
 fn table(alloc: Global, text: &str) -> Result<Calls, CallsFault> {
-    let Ok(config) = read_config(alloc, b"A=y\nN=5\nT=\"x\"\n") else {
+    let Ok(config) = read_config(alloc, b"A=y\nN=5\nM=-3\nT=\"x\"\n") else {
         return Err(CallsFault::Memory);
     };
     if text.len() > 1048576 {
         return Err(CallsFault::Memory);
     }
     read_calls(alloc, text.as_bytes(), &config)
+}
+
+fn kind_name(kind: Kind) -> &'static str {
+    match kind {
+        Kind::Word => " word",
+        Kind::In => " in",
+        Kind::Text => " text",
+        Kind::Out => " out",
+        Kind::Len => " len",
+        Kind::Out4 => " out4",
+        Kind::Out8 => " out8",
+    }
+}
+
+fn put_row(alloc: Global, text: &mut Bytes, row: &CallRow) -> Result<(), AllocError> {
+    let number = format!(in alloc; "{} ", row.number)?;
+    text.append(number.as_bytes())?;
+    text.append(row.name.as_slice())?;
+    for kind in row.kinds.as_slice() {
+        text.append(kind_name(*kind).as_bytes())?;
+    }
+    Ok(())
+}
+
+/// What reading a table gives, in a line: number, name and kinds of each row, or the first fault.
+pub fn reading(alloc: Global, text: &str) -> Result<Bytes, AllocError> {
+    let mut line = Bytes::new(alloc);
+    match table(alloc, text) {
+        Ok(calls) => {
+            for row in calls.rows() {
+                if !line.is_empty() {
+                    line.append(b"; ")?;
+                }
+                put_row(alloc, &mut line, row)?;
+            }
+        }
+        Err(CallsFault::Text { row, kind }) => {
+            let fault = format!(in alloc; "{row}: {kind}")?;
+            line.append(fault.as_bytes())?;
+        }
+        Err(CallsFault::Memory) => return Err(AllocError),
+    }
+    Ok(line)
 }
 
 #[test]

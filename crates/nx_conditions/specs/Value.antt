@@ -1,4 +1,4 @@
--- What a condition is worth, where each name has this meaning or none.
+-- The value of a condition, where each name has this meaning or none.
 use Rattle.std.specs.Prelude.{ℕ, ℤ, pos, int_lt, int_le, Bool, not, ◌&&◌, ◌||◌, is_some, List, Option, None, Some, if◌then◌else◌}
 use Rattle.std.specs.Ordering.{int_eq}
 use Rattle.nx_conditions.specs.declared.meaning.Meaning.{Meaning}
@@ -32,7 +32,7 @@ name_value (Some (meaning.Number n)) = n
 name_value (Some meaning.Other) = pos 0
 name_value None = pos 0
 
--- What a form is worth, once its parts are.
+-- The value of a form, by those of its parts.
 abbrev pub form_value : (List ℕ → Option Meaning) → Condition-F ℤ → ℤ
 form_value means Always = pos 1
 form_value means (Or x y) = one_if (is_true x || is_true y)
@@ -43,7 +43,7 @@ form_value means (Defined name) = one_if (is_some (means name))
 form_value means (Name name) = name_value (means name)
 form_value means (Number n) = pos n
 
--- What a condition is worth.
+-- The value of a condition.
 abbrev pub value_of : (List ℕ → Option Meaning) → Condition → ℤ
 value_of means a = fold-Condition ℤ (form_value means) a
 

@@ -38,7 +38,7 @@ fn name_value(meaning: Option<Meaning>) -> i128
     }
 }
 
-/// What a condition is worth: each operator gives 1 or 0.
+/// The value of a condition: each operator gives 1 or 0.
 #[cycle(value)]
 pub fn value<M: Meanings>(condition: &Condition, meanings: &M) -> i128
     ensures { result ≡ value_of (M.meaning meanings.now) condition.now }
@@ -67,7 +67,7 @@ pub fn value<M: Meanings>(condition: &Condition, meanings: &M) -> i128
     }
 }
 
-/// Whether a condition holds.
+/// Whether a condition holds: its value isn't 0.
 pub fn holds<M: Meanings>(condition: &Condition, meanings: &M) -> bool
     ensures { result ≡ holds (M.meaning meanings.now) condition.now }
 {

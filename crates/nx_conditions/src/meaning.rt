@@ -6,6 +6,7 @@ ghost use Rattle.nx_conditions.specs.declared.meaning.Meaning.{Meaning};
 pub enum Meaning {
     /// `y`.
     Yes,
+    /// A number.
     Number(i128),
     /// Any other value.
     Other,
@@ -15,6 +16,7 @@ pub enum Meaning {
 pub trait Meanings {
     ghost meaning: { Self → List ℕ → Option Meaning };
 
+    /// What a name means, where it has a value.
     fn meaning(&self, name: &[u8]) -> Option<Meaning>
         ensures { result ≡ meaning self.now name.now };
 }

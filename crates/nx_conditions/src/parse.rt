@@ -37,7 +37,9 @@ use std::alloc::{AllocError, Global};
 /// Why no tree was read: memory, or the fault and the tokens from it on.
 #[derive(Clone, Copy, Debug)]
 pub(crate) enum ParseStop<'a> {
+    /// Out of memory.
     Memory,
+    /// What is wrong, and the tokens from there on.
     Fault(Kind, &'a [Token]),
 }
 

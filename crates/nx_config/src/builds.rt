@@ -8,10 +8,13 @@ use crate::table::Table;
 use crate::value::Value;
 use nx_base::Build;
 
+/// The name that chooses the flat build.
 pub const FLAT: &str = "CONFIG_BUILD_FLAT";
 
+/// The name that chooses the protected build.
 pub const PROTECTED: &str = "CONFIG_BUILD_PROTECTED";
 
+/// The name that chooses the kernel build.
 pub const KERNEL: &str = "CONFIG_BUILD_KERNEL";
 
 fn line_of_yes(table: &Table, name: &str) -> Option<u32>
@@ -33,7 +36,7 @@ fn two_builds(line: u32) -> Result<Build, ConfigFault>
     })
 }
 
-// The later of two lines.
+/// The later of two lines.
 fn later(a: u32, b: u32) -> u32
     ensures { (x y : Build) → only (in_order ((a, x) ∷ (b, y) ∷ [])) ≡ Err (ConfigFault.Text result ConfigKind.TwoBuilds) }
 {
@@ -43,7 +46,7 @@ fn later(a: u32, b: u32) -> u32
     a
 }
 
-// The second of a line and two lines in order.
+/// The second of a line and two lines in order.
 fn second(a: u32, low: u32, high: u32) -> u32
     ensures { (x y z : Build) → only (placed (a, x) ((low, y) ∷ (high, z) ∷ [])) ≡ Err (ConfigFault.Text result ConfigKind.TwoBuilds) }
 {
@@ -56,7 +59,7 @@ fn second(a: u32, low: u32, high: u32) -> u32
     high
 }
 
-// The second of three lines.
+/// The second of three lines.
 fn middle(a: u32, b: u32, c: u32) -> u32
     ensures { (x y z : Build) → only (in_order ((a, x) ∷ (b, y) ∷ (c, z) ∷ [])) ≡ Err (ConfigFault.Text result ConfigKind.TwoBuilds) }
 {

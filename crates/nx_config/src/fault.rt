@@ -7,11 +7,17 @@ use thiserror::Error;
 #[derive(Clone, Copy, Debug, PartialEq, Eq, Error)]
 #[error("{text}", text = self.text())]
 pub enum ConfigKind {
+    /// A line that is no assignment and no comment.
     BadLine,
+    /// A number of magnitude 2^64 or more.
     BadNumber,
+    /// More than 8,192 names.
     Limit,
+    /// A limit outside its range.
     OutOfRange,
+    /// More than one build is chosen.
     TwoBuilds,
+    /// No build is chosen.
     NoBuild,
 }
 

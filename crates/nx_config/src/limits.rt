@@ -8,10 +8,15 @@ use crate::value::{Kept, Value};
 /// A limit: the name that sets it, its number by default, and from which lowest to which highest
 /// multiple it may be.
 pub struct Limit {
+    /// The name whose value it is.
     pub name: &'static str,
+    /// What it is where its name has no value.
     pub default: u32,
+    /// The least that it may be.
     pub lowest: u32,
+    /// The most that it may be.
     pub highest: u32,
+    /// What it must be a multiple of.
     pub multiple: u32,
 }
 
@@ -86,7 +91,7 @@ pub struct Limits {
     pub stack: u32,
 }
 
-// The number, if the limit may be it.
+/// The number, if the limit may be it.
 fn within(limit: &Limit, number: i128) -> Option<u32>
     requires { 0 < limit.now.multiple }
     ensures { result ≡ number_within (row_of limit.now) number }
@@ -101,7 +106,7 @@ fn within(limit: &Limit, number: i128) -> Option<u32>
     Some(number)
 }
 
-// The limit that a name's last line gives, or that line.
+/// The limit that a name's last line gives, or that line.
 fn limit_at(limit: &Limit, kept: &Kept) -> Result<u32, u32>
     requires { 0 < limit.now.multiple }
     ensures { result ≡ limit_at_line (row_of limit.now) kept.now.line kept.now.value }

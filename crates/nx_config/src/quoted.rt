@@ -10,7 +10,7 @@ fn closes(escaped: bool, byte: u8) -> bool
     !escaped && byte == b'"'
 }
 
-// AreLinesTaken a byte that doesn't close the text. This answers whether the next byte stands for itself.
+/// AreLinesTaken a byte that doesn't close the text. This answers whether the next byte stands for itself.
 #[tactic(auto, using(crate::proofs::Texts::before_push))]
 fn take_byte(text: &mut Bytes, escaped: bool, byte: u8) -> Result<bool, AllocError>
     requires { (not escaped && (byte == 34)) ≡ false }

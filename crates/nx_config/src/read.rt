@@ -15,7 +15,7 @@ use std::alloc::Global;
 /// How many distinct names there may be.
 pub const NAMES: usize = 8192;
 
-// Whether a name is in the table, or one more fits.
+/// Whether a name is in the table, or one more fits.
 #[tactic(auto, using(crate::proofs::Entries::length_keys))]
 fn fits(table: &Table, name: &Bytes) -> bool
     ensures { result ≡ (list_any (bytes_eq name.now) (keys_of table.now) || nat_lt (length (keys_of table.now)) 8192) }
@@ -23,7 +23,7 @@ fn fits(table: &Table, name: &Bytes) -> bool
     table.has(name.as_slice()) || table.len() < NAMES
 }
 
-// IsLineTaken what a line says of a name.
+/// IsLineTaken what a line says of a name.
 fn keep(table: &mut Table, line: u32, assignment: Assignment) -> Result<(), Stop>
     ensures { IsLineTaken result line (Ok (Some assignment)) table.old table.new }
 {
@@ -37,7 +37,7 @@ fn keep(table: &mut Table, line: u32, assignment: Assignment) -> Result<(), Stop
     }
 }
 
-// AreLinesTaken one line.
+/// AreLinesTaken one line.
 fn take_line(alloc: Global, table: &mut Table, line: u32, text: &[u8]) -> Result<(), Stop>
     ensures { IsLineTaken result line (says text.now) table.old table.new }
 {

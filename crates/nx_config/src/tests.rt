@@ -175,19 +175,32 @@ fn limits_are_read(rt: HostRuntime) -> Result<(), Fail> {
         stack: 8192,
     };
     assert_eq!(rt; config.limits(), defaults);
-    let config = read(
-        rt.alloc(),
-        "CONFIG_NXSIM_RAM=0x1000000\nCONFIG_NXSIM_THREADS=2\nCONFIG_NXSIM_BLOCKS=65536\nCONFIG_NXSIM_NODES=16\nCONFIG_NXSIM_CONSOLE=1025\nCONFIG_NXSIM_STACK=4096\n",
-    )?;
-    let limits = Limits {
-        ram: 16777216,
+    let lowest = Limits {
+        ram: 1048576,
         threads: 2,
-        blocks: 65536,
+        blocks: 16,
         nodes: 16,
-        console: 1025,
+        console: 1024,
         stack: 4096,
     };
-    assert_eq!(rt; config.limits(), limits);
+    let config = read(
+        rt.alloc(),
+        "CONFIG_NXSIM_RAM=0x100000\nCONFIG_NXSIM_THREADS=2\nCONFIG_NXSIM_BLOCKS=16\nCONFIG_NXSIM_NODES=16\nCONFIG_NXSIM_CONSOLE=1024\nCONFIG_NXSIM_STACK=4096\n",
+    )?;
+    assert_eq!(rt; config.limits(), lowest);
+    let highest = Limits {
+        ram: 16777216,
+        threads: 64,
+        blocks: 65536,
+        nodes: 1024,
+        console: 16777216,
+        stack: 1048576,
+    };
+    let config = read(
+        rt.alloc(),
+        "CONFIG_NXSIM_RAM=0x1000000\nCONFIG_NXSIM_THREADS=64\nCONFIG_NXSIM_BLOCKS=65536\nCONFIG_NXSIM_NODES=1024\nCONFIG_NXSIM_CONSOLE=16777216\nCONFIG_NXSIM_STACK=1048576\n",
+    )?;
+    assert_eq!(rt; config.limits(), highest);
     Ok(())
 }
 

@@ -14,6 +14,7 @@ pub enum Value {
 /// What a line says of a name: its value or none.
 #[derive(Debug, Drop)]
 pub struct Assignment {
+    /// Letters, digits and `_`.
     pub name: Bytes,
     /// None where the line says that the name has no value.
     pub value: Option<Value>,

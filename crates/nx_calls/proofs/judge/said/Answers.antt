@@ -25,6 +25,6 @@ pub returns-in-Ok : goal.returns-in-Ok
 returns-in-Ok g c = λ header.
     let good : is_c_name c.args.name.now ≡ true = sym c.is_c_name.ensures ∙ c.if-not-is_c_name.false in
     let worth = rw c.in-Ok-true.field-0-test at c.in-Ok-true.ensures in
-    let P : List (List ℕ) → Type 0 = λ types. IsVerdict c.declared_row.result (declared_row c.args.rows.now c.args.name.now c.args.given.now types) in
+    let P : List (List ℕ) → Type 0 = λ types. IsVerdict c.declared_row.result (declared_row c.args.rows.now c.args.name.now c.args.return_type.now types) in
     let fields = ap (map (λ f. f.now)) c.deref.ensures.value ∙ c.in-Ok.ensures in
     said_taken _ _ _ header _ _ _ c.declared_row.result good worth (subst P fields c.declared_row.ensures)
