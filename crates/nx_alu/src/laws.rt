@@ -13,7 +13,7 @@ pub fn halves_make_the_product()
 {}
 
 /// A law: the dividend is the divisor times the quotient and the remainder, which is smaller than
-/// the divisor, but for a division by zero and the signed one that overflows.
+/// the divisor, except in a division by zero and in the signed one that overflows.
 pub fn quotient_and_remainder_make_the_dividend()
     ensures signed { (a b : ℕ) → a < 2 ^ 32 → b < 2 ^ 32 → 0 < b → (b ≡ 2 ^ 32 - 1 → a ≢ 2 ^ 31) → signed (alu_of Div a b) *ℤ signed b +ℤ signed (alu_of Rem a b) ≡ signed a }
     ensures signed_smaller { (a b : ℕ) → a < 2 ^ 32 → b < 2 ^ 32 → 0 < b → unsigned_abs (signed (alu_of Rem a b)) < unsigned_abs (signed b) }

@@ -1,5 +1,4 @@
-//! The causes of traps: the exception codes of the register mcause. RISC-V Privileged Architecture
-//! 1.12, table 3.6.
+// The exception codes of the register mcause. RISC-V Privileged Architecture 1.12, table 3.6.
 
 /// The address of the next instruction is no multiple of four.
 pub const FETCH_MISALIGNED: u8 = 0;

@@ -4,6 +4,7 @@
 
 mod bytes;
 mod calls;
+/// The causes of traps, by the RISC-V Privileged Architecture 1.12, table 3.6.
 pub mod causes;
 mod count;
 mod cursor;

@@ -7,6 +7,7 @@ use nx_ram::{ProgImage, Ram};
 use nx_space::{FlatSpace, RAM_START, Space};
 use std::alloc::{AllocError, Global};
 
+// Room for the loop, its word in memory and one stack.
 const RAM_BYTES: u32 = 65536;
 
 const STACK_BYTES: u32 = 4096;
@@ -16,7 +17,9 @@ const GROUP: u32 = 1;
 /// A space with one group, which is entered, and the registers that it starts with.
 #[derive(Drop)]
 pub struct Board {
+    /// The space, in which group 1 is entered.
     pub space: FlatSpace,
+    /// The registers of the group's main thread.
     pub regs: Regs,
 }
 

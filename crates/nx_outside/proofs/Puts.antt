@@ -21,12 +21,12 @@ Wrote-nothing (Some a) = sym (append-nil a)
 
 -- the whole is a prefix of itself
 pub Cut-whole : (old new : Option (List ℕ)) (xs : List ℕ) → Wrote old new xs → Cut old new xs
-Cut-whole old new xs h = record { front = xs; wrote = h; begins = ([], sym (append-nil xs)) }
+Cut-whole old new xs h = record { prefix = xs; wrote = h; begins = ([], sym (append-nil xs)) }
 
 -- a prefix of the first bytes is a prefix of all
 pub Cut-more : (old new : Option (List ℕ)) (xs ys : List ℕ) → Cut old new xs → Cut old new (xs ++ ys)
 Cut-more old new xs ys h = record {
-  front = h.front;
+  prefix = h.prefix;
   wrote = h.wrote;
   begins = (h.begins.0 ++ ys, rw h.begins.1 (simp append_assoc));
 }
@@ -34,8 +34,8 @@ Cut-more old new xs ys h = record {
 -- a prefix after bytes
 pub Cut-append : (old mid new : Option (List ℕ)) (xs ys : List ℕ) → Wrote old mid xs → Cut mid new ys → Cut old new (xs ++ ys)
 Cut-append old mid new xs ys h k = record {
-  front = xs ++ k.front;
-  wrote = Wrote-append old mid new xs k.front h k.wrote;
+  prefix = xs ++ k.prefix;
+  wrote = Wrote-append old mid new xs k.prefix h k.wrote;
   begins = (k.begins.0, rw k.begins.1 (simp append_assoc));
 }
 

@@ -73,9 +73,9 @@ Wrote (Some xs) (Some ys) bytes = ys ≡ xs ++ bytes
 
 -- a prefix of the bytes was written
 pub record Cut (old new : Option (List ℕ)) (bytes : List ℕ) : Type 0 where
-  pub front : List ℕ
-  pub wrote : Wrote old new front
-  pub begins : IsPrefixOf front bytes
+  pub prefix : List ℕ
+  pub wrote : Wrote old new prefix
+  pub begins : IsPrefixOf prefix bytes
 
 -- a put writes its piece, or a prefix of it where it fails
 abbrev pub Puts : {T E : Type 0} → Result T E → Option (List ℕ) → Option (List ℕ) → List ℕ → Type 0

@@ -149,7 +149,7 @@ impl Files for MemFiles {
     }
 }
 
-// Whether the number is one of these.
+/// Whether the number is one of these.
 pub(crate) fn is_listed(numbers: &[u32], number: u64) -> bool
     ensures { IsTrue result ↔ Contains numbers.now number }
 {

@@ -5,7 +5,7 @@ use Rattle.nx_outside.proofs.mem_sink.MemSink.fail.Goals as goal
 -- The prefix is what was taken, and the rest is what was dropped.
 pub returns-clause-puts : goal.returns-clause-puts
 returns-clause-puts c = record {
-  front = take c.min.result c.args.piece.now;
+  prefix = take c.min.result c.args.piece.now;
   wrote = rw (← c.self.view_is) c.append_prefix.ensures.bytes;
   begins = (drop c.min.result c.args.piece.now, sym (take-append-drop _ _));
 }
