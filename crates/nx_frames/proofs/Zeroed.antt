@@ -4,7 +4,7 @@ use Rattle.std.specs.Prelude.{slice_index, slice_set}
 use Rattle.std.proofs.lemmas.List.{length-set, length-replicate, get_or-set_same}
 use Rattle.std.proofs.lemmas.Bool.{cases_lt}
 use Rattle.nx_base.specs.ByteLists.{put_bytes}
-use Rattle.nx_base.proofs.Puts.{get-put_bytes_other}
+use Rattle.nx_base.proofs.Puts.{put_bytes-more, get-put_bytes_other}
 use Rattle.nx_frames.specs.Chains.{address, chain, frame_after}
 use Rattle.nx_frames.specs.Zeros.{ram_start, IsZeroed, AreZeroed}
 use Rattle.nx_frames.proofs.Lists.{each_as, each_append, each_parts}
@@ -17,16 +17,17 @@ get-zeros (suc n) (suc k) = get-zeros n k
 
 -- the bytes that were put
 get-put_bytes : (bs : List ℕ) (i : ℕ) (xs : List ℕ) (d : ℕ) → i + length xs ≤ length bs → d < length xs → get_or (put_bytes bs i xs) (i + d) 0 ≡ get_or xs d 0
-unfolding put_bytes
 get-put_bytes bs i [] d h l = absurd (omega (arith, l))
 get-put_bytes bs i (x ∷ xs) zero h l =
     let e : i + 0 ≡ i = omega arith in
-    ap (λ k. get_or (put_bytes (slice_set bs i x) (i + 1) xs) k 0) e
-    ∙ get-put_bytes_other (slice_set bs i x) (i + 1) xs i (inl (omega arith))
+    ap (λ b. get_or b (i + 0) 0) (put_bytes-more bs i x xs (omega (arith, h)))
+    ∙ ap (λ k. get_or (put_bytes (slice_set bs i x) (i + 1) xs) k 0) e
+    ∙ get-put_bytes_other (slice_set bs i x) (i + 1) xs i (omega (arith, h, length-set bs i x)) (inl (omega arith))
     ∙ get_or-set_same bs i x 0 (omega (arith, h))
 get-put_bytes bs i (x ∷ xs) (suc d) h l =
     let e : i + suc d ≡ i + 1 + d = omega arith in
-    ap (λ k. get_or (put_bytes (slice_set bs i x) (i + 1) xs) k 0) e
+    ap (λ b. get_or b (i + suc d) 0) (put_bytes-more bs i x xs (omega (arith, h)))
+    ∙ ap (λ k. get_or (put_bytes (slice_set bs i x) (i + 1) xs) k 0) e
     ∙ get-put_bytes (slice_set bs i x) (i + 1) xs d (omega (arith, h, length-set bs i x)) (omega (arith, l))
 
 pub zeroed_is : (ram : List ℕ) (place size k : ℕ) → size ≡ 4096 → place + 4096 ≤ length ram → k < 4096 → get_or (put_bytes ram place (replicate size 0)) (place + k) 0 ≡ 0
@@ -34,10 +35,10 @@ zeroed_is ram place size k s h l =
     let n = length-replicate {A = ℕ} size 0 in
     get-put_bytes ram place (replicate size 0) k (omega (arith, h, n, s)) (omega (arith, l, n, s)) ∙ get-zeros size k
 
-pub others_stay : (ram : List ℕ) (place size k : ℕ) → size ≡ 4096 → (k < place) ⊎ (place + 4096 ≤ k) → get_or (put_bytes ram place (replicate size 0)) k 0 ≡ get_or ram k 0
-others_stay ram place size k s out =
+pub others_stay : (ram : List ℕ) (place size k : ℕ) → size ≡ 4096 → place + 4096 ≤ length ram → (k < place) ⊎ (place + 4096 ≤ k) → get_or (put_bytes ram place (replicate size 0)) k 0 ≡ get_or ram k 0
+others_stay ram place size k s h out =
     let n = length-replicate {A = ℕ} size 0 in
-    get-put_bytes_other ram place (replicate size 0) k (⊎_elim (λ l. inl l) (λ l. inr (omega (arith, l, s, n))) out)
+    get-put_bytes_other ram place (replicate size 0) k (omega (arith, s, h, n)) (⊎_elim (λ l. inl l) (λ l. inr (omega (arith, l, s, n))) out)
 
 pub none_zeroed : (ram : List ℕ) → AreZeroed ram ram []
 none_zeroed ram = record { zeros = tt; others = λ k out. refl; long = refl }

@@ -5,6 +5,7 @@ use Rattle.std.specs.List.{remove}
 use Rattle.std.proofs.lemmas.Bool.Decides.{nat_tests}
 use Rattle.std.proofs.lemmas.List.{map-append, length-replicate}
 use Rattle.nx_base.specs.ByteLists.{put_bytes}
+use Rattle.nx_base.proofs.Puts.{put_bytes-none}
 use Rattle.nx_space.specs.declared.shared.Live.{Live}
 use Rattle.nx_space.specs.World.{Home, Common, Part, Plan, World, has_view, group_of}
 use Rattle.nx_space.specs.Places.{Place, lies_in, place_in, written_at, is_clear}
@@ -41,6 +42,22 @@ unfolding put_seen
 put_shared ps pool s number at n xs l straight h =
     ap (λ o. put_or (shared_world ps pool s) number o xs) (ap (written_at ps at) l ∙ held_place (shared_plan ps pool s) ps at n straight h)
 
+-- no bytes are put anywhere
+put_none : (ps : List Part) (pool : ℕ) (s : Sharing) (number at : ℕ) → AreStraight ps → put_seen (shared_world ps pool s) number ps at [] ≡ shared_world ps pool (record s { ram = put_bytes s.ram (at - ram_start) [] })
+unfolding put_seen
+put_none ps pool s number at straight = by_place (written_at ps at 0) refl
+  where
+    same : shared_world ps pool s ≡ shared_world ps pool (record s { ram = put_bytes s.ram (at - ram_start) [] })
+    same = ap (λ r. shared_world ps pool (record s { ram = r })) (sym (put_bytes-none s.ram (at - ram_start)))
+
+    by_place : (o : Option Place) → written_at ps at 0 ≡ o → put_or (shared_world ps pool s) number o [] ≡ shared_world ps pool (record s { ram = put_bytes s.ram (at - ram_start) [] })
+    by_place None e = same
+    by_place (Some pl) e = ap (λ o. put_or (shared_world ps pool s) number o []) (sym (straight_place (λ p. p.writes) ps at 0 pl straight e))
+
+put_data : (ps : List Part) (pool : ℕ) (s : Sharing) (number at : ℕ) (xs : List ℕ) → AreStraight ps → (1 ≤ length xs → MayHold (shared_plan ps pool s) ps at (length xs)) → put_seen (shared_world ps pool s) number ps at xs ≡ shared_world ps pool (record s { ram = put_bytes s.ram (at - ram_start) xs })
+put_data ps pool s number at [] straight h = put_none ps pool s number at straight
+put_data ps pool s number at (x ∷ xs) straight h = put_shared ps pool s number at (length (x ∷ xs)) (x ∷ xs) refl straight (h (omega arith))
+
 zero_shared : (ps : List Part) (pool : ℕ) (s : Sharing) (common : List (List ℕ)) (number slot : ℕ) → AreStraight ps → IsShared (shared_plan ps pool s) common → slot < s.threads → zero_stack (shared_world ps pool s) number ps slot ≡ shared_world ps pool (record s { ram = with_stack_zeroed s s.ram slot })
 zero_shared ps pool s common number slot straight h l = put_shared ps pool s number (s.stacks_at + slot * s.stack) s.stack (replicate s.stack 0) (length-replicate {A = ℕ} s.stack 0) straight (h.stacks slot l)
 
@@ -58,7 +75,7 @@ shared_started ps pool s common number place slot fresh straight h p l =
     data_set b = if b then with_data_set s s.ram place else s.ram
 
     set : (b : Bool) → (if b then set_data (shared_world ps pool s) number ps place else shared_world ps pool s) ≡ shared_world ps pool (record s { ram = data_set b })
-    set true = put_shared ps pool s number (program_at (shared_plan ps pool s) place).data_at _ (program_at (shared_plan ps pool s) place).init refl straight (h.contents place p)
+    set true = put_data ps pool s number (program_at (shared_plan ps pool s) place).data_at (program_at (shared_plan ps pool s) place).init straight (h.contents place p)
     set false = refl
 
 pub shared_grown : (ps : List Part) (pool : ℕ) (s : Sharing) (common : List (List ℕ)) (number slot : ℕ) → AreStraight ps → IsShared (shared_plan ps pool s) common → has_view (map (shared_group ps) s.live) number ≡ true → slot < s.threads → grown (shared_world ps pool s) number slot ≡ shared_world ps pool (record s { ram = with_stack_zeroed s s.ram slot })

@@ -7,7 +7,7 @@ use Rattle.std.proofs.lemmas.Bool.Decides.{nat_tests}
 use Rattle.std.proofs.lemmas.List.{length-set, length-replicate}
 use Rattle.nx_base.specs.ByteLists.{put_bytes}
 use Rattle.nx_base.specs.declared.kinds.Access.{Access}
-use Rattle.nx_base.proofs.Puts.{length-put_bytes}
+use Rattle.nx_base.proofs.Puts.{put_bytes-none, length-put_bytes}
 use Rattle.nx_space.specs.World.{Home, Common, Own, Part, Group, Plan, World, has_view, group_of, bytes_in, bytes_of, seen_by, view_of, window_of, pool_of}
 use Rattle.nx_space.specs.Places.{Place, place_in, written_at, put_home, put_into, with_bytes, is_past, is_clear}
 use Rattle.nx_space.specs.Lawful.{IsThere, AreParts, IsOwn, AreOwn, MayHold, IsShared, IsWorld, IsLeft}
@@ -44,13 +44,15 @@ touched_trans u v w number a b = record {
 
 -- bytes that fit where groups share them, past the pool
 abbrev FitsCommon : World → Home → ℕ → ℕ → Type 0
-FitsCommon w (Common k) i n = ((k < length w.common) × (i + n ≤ length (bytes_in w.common k))) × ((is_past w.plan.pool (Common k) i ≡ true) × (w.plan.is_paged ≡ false))
+FitsCommon w (Common k) i n = ((k < length w.common) × (i + n ≤ length (bytes_in w.common k))) × ((1 ≤ n → is_past w.plan.pool (Common k) i ≡ true) × (w.plan.is_paged ≡ false))
 FitsCommon w (Own k) i n = Unit {0}
 
-pool_put : (common : List (List ℕ)) (pool k i : ℕ) (xs : List ℕ) → k < length common → i + length xs ≤ length (bytes_in common k) → is_past pool (Common k) i ≡ true → take pool (bytes_in (put_into common k i xs) 0) ≡ take pool (bytes_in common 0)
-pool_put common pool zero i xs there fit past =
+pool_put : (common : List (List ℕ)) (pool k i : ℕ) (xs : List ℕ) → k < length common → i + length xs ≤ length (bytes_in common k) → (1 ≤ length xs → is_past pool (Common k) i ≡ true) → take pool (bytes_in (put_into common k i xs) 0) ≡ take pool (bytes_in common 0)
+pool_put common pool zero i [] there fit past = ap (take pool) (into_same common 0 i [] there ∙ put_bytes-none (bytes_in common 0) i)
+pool_put common pool zero i (x ∷ xs) there fit past =
+    let far = past (omega arith) in
     let out : 0 + pool ≤ i = grind (arith, nat_tests) in
-    ap (take pool) (into_same common 0 i xs there) ∙ put_other_part (bytes_in common 0) i xs 0 pool fit (inl out)
+    ap (take pool) (into_same common 0 i (x ∷ xs) there) ∙ put_other_part (bytes_in common 0) i (x ∷ xs) 0 pool fit (inl out)
 pool_put common pool (suc k) i xs there fit past = ap (take pool) (into_other common (suc k) i xs 0 (λ e. omega (arith, e)))
 
 touched_home : (w : World) (number : ℕ) (h : Home) (i : ℕ) (xs : List ℕ) → FitsCommon w h i (length xs) → IsTouched w (put_home w number h i xs) number
@@ -74,11 +76,11 @@ touched_home w number (Own k) i xs f = record {
 }
 
 -- a place of windows that all groups share
-fits_shared : (w : World) (at n : ℕ) (pl : Place) → w.plan.is_paged ≡ false → AreParts w.common [] w.plan.shared → written_at w.plan.shared at n ≡ Some pl → MayHold w.plan w.plan.shared at n → FitsCommon w pl.home pl.at n
+fits_shared : (w : World) (at n : ℕ) (pl : Place) → w.plan.is_paged ≡ false → AreParts w.common [] w.plan.shared → written_at w.plan.shared at n ≡ Some pl → (1 ≤ n → MayHold w.plan w.plan.shared at n) → FitsCommon w pl.home pl.at n
 fits_shared w at n pl unpaged a e clear =
-    by_home pl.home pl.at (place_there (λ p. p.writes) w.common [] w.plan.shared at n pl a e) (place_fits (λ p. p.writes) (bytes_of w.common []) w.plan.shared at n pl (laid w.common [] w.plan.shared a) e) (sym (ap (is_clear w.plan.pool) e) ∙ clear)
+    by_home pl.home pl.at (place_there (λ p. p.writes) w.common [] w.plan.shared at n pl a e) (place_fits (λ p. p.writes) (bytes_of w.common []) w.plan.shared at n pl (laid w.common [] w.plan.shared a) e) (λ one. sym (ap (is_clear w.plan.pool) e) ∙ clear one)
   where
-    by_home : (h : Home) (i : ℕ) → IsThere w.common [] h → i + n ≤ length (bytes_of w.common [] h) → is_past w.plan.pool h i ≡ true → FitsCommon w h i n
+    by_home : (h : Home) (i : ℕ) → IsThere w.common [] h → i + n ≤ length (bytes_of w.common [] h) → (1 ≤ n → is_past w.plan.pool h i ≡ true) → FitsCommon w h i n
     by_home (Common k) i there fit past = ((there, fit), (past, unpaged))
     by_home (Own k) i there fit past = tt
 
@@ -105,9 +107,9 @@ touched_seen w number ps at xs f = by_place (written_at ps at (length xs)) refl
     by_place None e = touched_refl w number
     by_place (Some pl) e = touched_home w number pl.home pl.at xs (f pl e)
 
-touched_shared : (w : World) (number at n : ℕ) (xs : List ℕ) → length xs ≡ n → w.plan.is_paged ≡ false → AreParts w.common [] w.plan.shared → MayHold w.plan w.plan.shared at n → IsTouched w (put_seen w number w.plan.shared at xs) number
+touched_shared : (w : World) (number at n : ℕ) (xs : List ℕ) → length xs ≡ n → w.plan.is_paged ≡ false → AreParts w.common [] w.plan.shared → (1 ≤ n → MayHold w.plan w.plan.shared at n) → IsTouched w (put_seen w number w.plan.shared at xs) number
 touched_shared w number at n xs l unpaged a clear =
-    touched_seen w number w.plan.shared at xs (λ pl e. fits_shared w at (length xs) pl unpaged a e (ap (λ k. is_clear w.plan.pool (written_at w.plan.shared at k)) l ∙ clear))
+    touched_seen w number w.plan.shared at xs (λ pl e. fits_shared w at (length xs) pl unpaged a e (λ one. ap (λ k. is_clear w.plan.pool (written_at w.plan.shared at k)) l ∙ clear (omega (arith, one, l))))
 
 -- windows lie where they lay
 there_again : (common later own : List (List ℕ)) (h : Home) → length later ≡ length common → IsThere common own h → IsThere later own h
@@ -131,7 +133,7 @@ shared_again w v number t h = subst (λ plan. IsShared plan v.common) (sym t.pla
 })
 
 pub touched_zero : (w : World) (number slot : ℕ) → w.plan.is_paged ≡ false → IsShared w.plan w.common → slot < w.plan.threads → IsTouched w (zero_stack w number w.plan.shared slot) number
-touched_zero w number slot unpaged h l = touched_shared w number (stack_low w.plan slot) w.plan.stack (replicate w.plan.stack 0) (length-replicate {A = ℕ} w.plan.stack 0) unpaged h.parts (h.stacks slot l)
+touched_zero w number slot unpaged h l = touched_shared w number (stack_low w.plan slot) w.plan.stack (replicate w.plan.stack 0) (length-replicate {A = ℕ} w.plan.stack 0) unpaged h.parts (λ one. h.stacks slot l)
 
 touched_data : (w : World) (number place : ℕ) → w.plan.is_paged ≡ false → IsShared w.plan w.common → place < length w.plan.programs → IsTouched w (set_data w number w.plan.shared place) number
 touched_data w number place unpaged h l = touched_shared w number (program_at w.plan place).data_at _ (program_at w.plan place).init refl unpaged h.parts (h.contents place l)

@@ -35,7 +35,7 @@ pub flat_shared : (s : Sharing) → IsSharing s → IsShared (shared_plan (flat_
 flat_shared s h = record {
   parts = let w = h.whole in ((omega arith, omega (arith, w)), (tt, tt));
   stacks = λ slot l. flat_holds s _ s.stack (slot_inside s.size s.stacks_at s.stack s.threads slot h.fits.stacks l);
-  contents = λ place l. flat_holds s _ _ (h.fits.contents place l);
+  contents = λ place l some. flat_holds s _ _ (h.fits.contents place l);
 }
 
 pub flat_lawful : (s : Sharing) → IsSharing s → IsWorld (flat_world s)

@@ -43,7 +43,7 @@ MayHold plan ps at n = is_clear plan.pool (written_at ps at n) ≡ true
 pub record IsShared (plan : Plan) (common : List (List ℕ)) : Type 0 where
   pub parts : AreParts common [] plan.shared
   pub stacks : (slot : ℕ) → slot < plan.threads → MayHold plan plan.shared (stack_low plan slot) plan.stack
-  pub contents : (place : ℕ) → place < length plan.programs → MayHold plan plan.shared (program_at plan place).data_at (length (program_at plan place).init)
+  pub contents : (place : ℕ) → place < length plan.programs → 1 ≤ length (program_at plan place).init → MayHold plan plan.shared (program_at plan place).data_at (length (program_at plan place).init)
 
 -- with pages: a group's windows are its own, and hold the stacks of its slots and its program's data
 pub record IsAlone (plan : Plan) (common : List (List ℕ)) (g : Group) : Type 0 where

@@ -8,4 +8,4 @@ returns-clause-zeroed c k l =
 
 pub returns-clause-others : goal.returns-clause-others
 returns-clause-others c k out =
-    ap (λ r. get_or r k 0) c.zero.ensures.bytes ∙ others_stay c.args.ram.now c.args.place c.args.size k c.requires.size out
+    ap (λ r. get_or r k 0) c.zero.ensures.bytes ∙ others_stay c.args.ram.now c.args.place c.args.size k c.requires.size c.requires.inside out
