@@ -6,8 +6,8 @@ use Rattle.std.proofs.lemmas.Int.{ints, to_z-of_z, of_z-to_z, quot-rem, rem_belo
 use Rattle.std.proofs.lemmas.Bool.{cases_lt}
 use Rattle.std.proofs.lemmas.Bool.Decides.{nat_tests}
 use Rattle.std.proofs.Math.Nat.{div-add-mod, div-le_self, div-lt_self, div-one, mod-lt, mul-le-mul_left, mul-le-mul_right}
-use Rattle.nx_base.specs.declared.kinds.AluOp.TheVariants.{Mul, Mulh, Mulhsu, Mulhu, Div, Divu, Rem, Remu}
-use Rattle.nx_base.specs.declared.kinds.Cond.TheVariants.{Eq, Ne, Lt, Ge, Ltu, Geu}
+use Rattle.nx_base.specs.declared.operations.AluOp.TheVariants.{Mul, Mulh, Mulhsu, Mulhu, Div, Divu, Rem, Remu}
+use Rattle.nx_base.specs.declared.operations.Cond.TheVariants.{Eq, Ne, Lt, Ge, Ltu, Geu}
 use Rattle.nx_base.specs.Arithmetic.{alu_of, taken_of, signed, word_of, upper_of}
 
 -- the halves of a number whose lower one is that of a product

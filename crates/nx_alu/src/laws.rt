@@ -1,7 +1,7 @@
 ghost use Rattle.std.specs.Prelude.{◌≡◌, ◌≢◌, ℕ, ◌+◌, ◌-◌, ◌*◌, ◌^◌, ◌<◌, not, pos, ◌+ℤ◌, ◌*ℤ◌, unsigned_abs, int_rem};
 ghost use Rattle.std.specs.Int.{w64, cast_unsigned};
-ghost use Rattle.nx_base.specs.declared.kinds.AluOp.TheVariants.{Mul, Mulh, Mulhsu, Mulhu, Div, Divu, Rem, Remu};
-ghost use Rattle.nx_base.specs.declared.kinds.Cond.TheVariants.{Eq, Ne, Lt, Ge, Ltu, Geu};
+ghost use Rattle.nx_base.specs.declared.operations.AluOp.TheVariants.{Mul, Mulh, Mulhsu, Mulhu, Div, Divu, Rem, Remu};
+ghost use Rattle.nx_base.specs.declared.operations.Cond.TheVariants.{Eq, Ne, Lt, Ge, Ltu, Geu};
 ghost use Rattle.nx_base.specs.Arithmetic.{alu_of, taken_of, signed};
 
 /// A law: the upper and the lower half make up the product, of signed words, of a signed and an

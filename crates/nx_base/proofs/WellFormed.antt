@@ -2,7 +2,7 @@
 use Rattle.std.proofs.Common.{◌≡◌, ℕ, zero, suc, ◌+◌, ◌≤◌, List, [], ◌∷◌, ◌++◌, length, Bool, true, false, Option, Some, None, Ok, refl, sym, ap, ◌∙◌, subst, arith}
 use Rattle.std.specs.Prelude.{◌==◌, min, if◌then◌else◌, Result, Err}
 use Rattle.nx_base.specs.declared.regs.Regs.{Regs}
-use Rattle.nx_base.specs.declared.kinds.Access.TheVariants.{Load, Store}
+use Rattle.nx_base.specs.declared.access.Access.TheVariants.{Load, Store}
 use Rattle.nx_base.specs.declared.calls.Kind.{Kind}
 use Rattle.nx_base.specs.declared.calls.Kind.TheVariants.{Word, In, Text, Out, Len, Out4, Out8}
 use Rattle.nx_base.specs.Registers.{reg}

@@ -1,10 +1,10 @@
 -- What an operation on two words gives, and when a branch is taken. RISC-V Unprivileged ISA, RV32I 2.1 sections 2.4 and 2.5, M 2.0.
 use Rattle.std.specs.Prelude.{ℕ, ◌+◌, ◌-◌, ◌*◌, ◌/◌, ◌%◌, ◌^◌, ◌==◌, nat_lt, nat_le, Bool, not, if◌then◌else◌, bit_and, bit_or, bit_xor, ℤ, pos, ◌*ℤ◌, int_lt, int_le, int_div, int_rem}
 use Rattle.std.specs.Int.{w32, w64, cast_signed, cast_unsigned, int_shr}
-use Rattle.nx_base.specs.declared.kinds.AluOp.{AluOp}
-use Rattle.nx_base.specs.declared.kinds.AluOp.TheVariants.{Add, Sub, Sll, Slt, Sltu, Xor, Srl, Sra, Or, And, Mul, Mulh, Mulhsu, Mulhu, Div, Divu, Rem, Remu}
-use Rattle.nx_base.specs.declared.kinds.Cond.{Cond}
-use Rattle.nx_base.specs.declared.kinds.Cond.TheVariants.{Eq, Ne, Lt, Ge, Ltu, Geu}
+use Rattle.nx_base.specs.declared.operations.AluOp.{AluOp}
+use Rattle.nx_base.specs.declared.operations.AluOp.TheVariants.{Add, Sub, Sll, Slt, Sltu, Xor, Srl, Sra, Or, And, Mul, Mulh, Mulhsu, Mulhu, Div, Divu, Rem, Remu}
+use Rattle.nx_base.specs.declared.operations.Cond.{Cond}
+use Rattle.nx_base.specs.declared.operations.Cond.TheVariants.{Eq, Ne, Lt, Ge, Ltu, Geu}
 
 -- the signed number of a word, and the word of a signed number
 abbrev pub signed : ℕ → ℤ

@@ -1,7 +1,7 @@
 -- A call taken from registers and a view, and outputs of a reply put into a view.
 use Rattle.std.specs.Prelude.{ℕ, ◌+◌, min, Bool, true, false, if◌then◌else◌, List, [], ◌∷◌, ◌++◌, Option, Some, None, Result, Ok, Err}
 use Rattle.nx_base.specs.declared.regs.Regs.{Regs}
-use Rattle.nx_base.specs.declared.kinds.Access.TheVariants.{Load, Store}
+use Rattle.nx_base.specs.declared.access.Access.TheVariants.{Load, Store}
 use Rattle.nx_base.specs.declared.calls.Kind.{Kind}
 use Rattle.nx_base.specs.declared.calls.Kind.TheVariants.{Word, In, Text, Out, Len, Out4, Out8}
 use Rattle.nx_base.specs.Registers.{reg}

@@ -1,7 +1,7 @@
 -- The choice of a build takes no memory.
 use Rattle.std.proofs.Common.{◌≢◌, ℕ, List, [], ◌∷◌, Option, Err}
 use Rattle.std.specs.Prelude.{codes}
-use Rattle.nx_base.specs.declared.kinds.Build.{Build}
+use Rattle.nx_base.specs.declared.build.Build.{Build}
 use Rattle.nx_config.specs.declared.fault.ConfigFault.TheVariants as fault
 use Rattle.nx_config.specs.declared.value.Kept.{Kept}
 use Rattle.nx_config.specs.Builds.{only, in_order, choices, yes_line, build_by}

@@ -1,7 +1,7 @@
 -- The build that a configuration chooses.
 use Rattle.std.specs.Prelude.{ℕ, codes, nat_le, if◌then◌else◌, List, [], ◌∷◌, ◌++◌, Option, None, Some, Result, Ok, Err}
-use Rattle.nx_base.specs.declared.kinds.Build.{Build}
-use Rattle.nx_base.specs.declared.kinds.Build.TheVariants.{Flat, Protected, Kernel}
+use Rattle.nx_base.specs.declared.build.Build.{Build}
+use Rattle.nx_base.specs.declared.build.Build.TheVariants.{Flat, Protected, Kernel}
 use Rattle.nx_config.specs.declared.fault.ConfigKind.TheVariants.{TwoBuilds, NoBuild}
 use Rattle.nx_config.specs.declared.fault.ConfigFault.{ConfigFault}
 use Rattle.nx_config.specs.declared.fault.ConfigFault.TheVariants as fault

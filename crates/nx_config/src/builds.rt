@@ -1,5 +1,5 @@
 ghost use Rattle.std.specs.Prelude.{◌≡◌, ◌∷◌, []};
-ghost use Rattle.nx_base.specs.declared.kinds.Build.{Build};
+ghost use Rattle.nx_base.specs.declared.build.Build.{Build};
 ghost use Rattle.nx_config.specs.Builds.{yes_line, choices, placed, in_order, only, build_by};
 ghost use Rattle.nx_config.specs.Tables.{value_in};
 

@@ -5,8 +5,9 @@ ghost use Rattle.nx_frames.specs.Stock.{Stock, Holds, SameFrames, KeepsOthers, T
 
 use crate::too_few::TooFew;
 use crate::zeros::zero_frame;
+use nx_base::OutOfMemory;
 use nx_ram::Ram;
-use std::alloc::{AllocError, Global};
+use std::alloc::Global;
 use std::marker::Model;
 
 const RAM_START: u32 = 0x80000000;
@@ -53,7 +54,7 @@ impl Model for Frames {
 
 impl Frames {
     /// `count` frames from an address of the RAM on, all of them free. They end at 2^32 at the latest.
-    pub fn new(alloc: Global, first: u32, count: u32) -> Result<Frames, AllocError>
+    pub fn new(alloc: Global, first: u32, count: u32) -> Result<Frames, OutOfMemory>
         requires low { ram_start ≤ first }
         requires fits { first + 4096 * count ≤ 2 ^ 32 }
         ensures { IfOk result (λ f. (f.first ≡ first) × (length f.next ≡ count) × (f.free ≡ frames_from first count)) }

@@ -1,11 +1,12 @@
+use nx_base::OutOfMemory;
 ghost use Rattle.std.specs.Prelude.{◌≡◌, IfOk, length};
 
 use super::*;
 use nx_ram::Ram;
-use std::alloc::{AllocError, Global};
+use std::alloc::Global;
 use std::test::Fail;
 
-fn ram_of(alloc: Global, size: u32) -> Result<Ram, AllocError>
+fn ram_of(alloc: Global, size: u32) -> Result<Ram, OutOfMemory>
     ensures { IfOk result (λ ram. length ram ≡ size) }
 {
     Ram::new(alloc, size)

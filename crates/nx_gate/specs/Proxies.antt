@@ -1,6 +1,6 @@
 -- A proxy's instructions, and what they do.
 use Rattle.std.specs.Prelude.{◌≡◌, ℕ, zero, suc, ◌+◌, ◌*◌, ◌<◌, ◌⊎◌, List, [], ◌∷◌, ◌++◌, Ok, pos}
-use Rattle.nx_base.specs.declared.kinds.AluOp.TheVariants.{Add}
+use Rattle.nx_base.specs.declared.operations.AluOp.TheVariants.{Add}
 use Rattle.nx_base.specs.declared.regs.Regs.{Regs}
 use Rattle.nx_base.specs.Registers.{reg}
 use Rattle.nx_base.specs.Views.{View, fetch_word}

@@ -2,10 +2,10 @@ ghost use Rattle.std.specs.Prelude.{◌≡◌, [], length, IfOk};
 ghost use Rattle.nx_space.specs.World.{IsEntered};
 
 use crate::turns::{TURN_WORDS, turn_words};
-use nx_base::{Bytes, Regs, Text};
+use nx_base::{OutOfMemory, Bytes, Regs, Text};
 use nx_ram::{ProgImage, Ram};
 use nx_space::{FlatSpace, RAM_START, Space};
-use std::alloc::{AllocError, Global};
+use std::alloc::Global;
 
 // Room for the loop, its word in memory and one stack.
 const RAM_BYTES: u32 = 65536;
@@ -24,7 +24,7 @@ pub struct Board {
 }
 
 // A RAM with the loop at its first byte.
-fn loaded_ram(alloc: Global) -> Result<Ram, AllocError>
+fn loaded_ram(alloc: Global) -> Result<Ram, OutOfMemory>
     ensures { IfOk result (λ ram. length ram ≡ RAM_BYTES) }
 {
     let words = turn_words();
@@ -36,7 +36,7 @@ fn loaded_ram(alloc: Global) -> Result<Ram, AllocError>
 }
 
 // A program at the RAM's first byte, with no data.
-fn program(alloc: Global) -> Result<ProgImage, AllocError>
+fn program(alloc: Global) -> Result<ProgImage, OutOfMemory>
     ensures data_at { IfOk result (λ program. program.data_at ≡ RAM_START) }
     ensures init { IfOk result (λ program. program.init ≡ []) }
 {
@@ -55,7 +55,7 @@ fn program(alloc: Global) -> Result<ProgImage, AllocError>
 impl Board {
     /// A board that stands before the loop's first instruction.
     #[tactic(auto, unfolding(nx_space::specs::World::has_view))]
-    pub fn new(alloc: Global) -> Result<Board, AllocError>
+    pub fn new(alloc: Global) -> Result<Board, OutOfMemory>
         ensures { IfOk result (λ board. IsEntered (⟦<FlatSpace as Space>⟧.world board.space)) }
     {
         let ram = loaded_ram(alloc)?;
@@ -68,7 +68,7 @@ impl Board {
                 space.enter(GROUP);
                 Ok(Board { space, regs })
             }
-            Err(_) => Err(AllocError),
+            Err(_) => Err(OutOfMemory),
         }
     }
 }

@@ -1,8 +1,8 @@
 -- Fields of instructions that are in range.
 use Rattle.std.proofs.Common.{ℕ, ◌<◌, Bool, true, false, ⊎_elim, inl, inr}
 use Rattle.std.specs.Prelude.{ℤ}
-use Rattle.nx_base.specs.declared.kinds.AluOp.{AluOp}
-use Rattle.nx_base.specs.declared.kinds.AluOp.TheVariants as op
+use Rattle.nx_base.specs.declared.operations.AluOp.{AluOp}
+use Rattle.nx_base.specs.declared.operations.AluOp.TheVariants as op
 use Rattle.nx_ram.specs.Widths.{IsWidth}
 use Rattle.nx_rv.specs.Table.{IsLoad, FitsOpImm}
 

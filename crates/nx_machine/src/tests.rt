@@ -1,10 +1,10 @@
 ghost use Rattle.std.specs.Prelude.{true};
 
 use super::*;
-use nx_base::{Bytes, Count, Text};
+use nx_base::{OutOfMemory, Bytes, Count, Text};
 use nx_ram::{ProgImage, Ram};
 use nx_space::{FlatSpace, RAM_START, Space};
-use std::alloc::{AllocError, Global};
+use std::alloc::Global;
 use std::test::Fail;
 
 // Runs words from the start of a RAM of 64 bytes: why it stops, how many instructions were made,
@@ -15,7 +15,7 @@ fn run_words(
     first: u32,
     second: u32,
     limit: u64,
-) -> Result<(Stop, u64, u32, u32), AllocError> {
+) -> Result<(Stop, u64, u32, u32), OutOfMemory> {
     let mut ram = Ram::new(alloc, 64)?;
     ram.store32(0, 0x800002B7);
     ram.store32(4, first);
@@ -35,7 +35,7 @@ fn run_words(
     let mut space = FlatSpace::new(alloc, ram, programs, RAM_START + 32, 16, 2)?;
     let regs = match space.start(1, 0, 0, false) {
         Ok(regs) => regs,
-        Err(_) => return Err(AllocError),
+        Err(_) => return Err(OutOfMemory),
     };
     space.enter(1);
     let mut machine = Machine::new();

@@ -1,7 +1,7 @@
 -- The first rule that matches decides.
 use Rattle.std.proofs.Common.{◌≡◌, ℕ, zero, suc, ◌<◌, true, false, ◌&&◌, cond, List, [], ◌∷◌, length, refl, ap, ◌∙◌, arith}
-use Rattle.nx_base.specs.declared.kinds.Access.{Access}
-use Rattle.nx_base.specs.declared.kinds.Mode.{Mode}
+use Rattle.nx_base.specs.declared.access.Access.{Access}
+use Rattle.nx_base.specs.declared.access.Mode.{Mode}
 use Rattle.nx_pmp.specs.declared.pmp.PmpEntry.{PmpEntry}
 use Rattle.nx_pmp.specs.Protection.{rules_from, decided, permits, is_machine, any_byte, all_bytes, entry_at, range_at}
 

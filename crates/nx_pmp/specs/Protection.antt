@@ -1,9 +1,9 @@
 -- Which accesses are allowed. RISC-V Privileged Architecture 1.12, section 3.7.1, "Locking and Privilege Mode" and "Priority and Matching Logic".
 use Rattle.std.specs.Prelude.{◌≡◌, ℕ, zero, suc, ◌<◌, slice_index_or, ◌/◌, ◌%◌, ◌==◌, Bool, true, false, ◌&&◌, ◌||◌, not, if◌then◌else◌, List, [], ◌∷◌, Option, Some, None}
-use Rattle.nx_base.specs.declared.kinds.Access.{Access}
-use Rattle.nx_base.specs.declared.kinds.Access.TheVariants.{Fetch, Load, Store}
-use Rattle.nx_base.specs.declared.kinds.Mode.{Mode}
-use Rattle.nx_base.specs.declared.kinds.Mode.TheVariants.{User, Machine}
+use Rattle.nx_base.specs.declared.access.Access.{Access}
+use Rattle.nx_base.specs.declared.access.Access.TheVariants.{Fetch, Load, Store}
+use Rattle.nx_base.specs.declared.access.Mode.{Mode}
+use Rattle.nx_base.specs.declared.access.Mode.TheVariants.{User, Machine}
 use Rattle.nx_pmp.specs.declared.matching.Range.{Range}
 use Rattle.nx_pmp.specs.declared.pmp.PmpEntry.{PmpEntry}
 use Rattle.nx_pmp.specs.declared.pmp.Pmp.{Pmp}

@@ -1,6 +1,6 @@
 ghost use Rattle.std.specs.Prelude.{◌≡◌, ◌↔◌, ℕ, ◌+◌, ◌-◌, ◌*◌, ◌%◌, ◌^◌, ◌<◌, ◌≤◌, true, false, ◌&&◌, IsTrue, Some, length};
-ghost use Rattle.nx_base.specs.declared.kinds.Access.{Access};
-ghost use Rattle.nx_base.specs.declared.kinds.Mode.{Mode};
+ghost use Rattle.nx_base.specs.declared.access.Access.{Access};
+ghost use Rattle.nx_base.specs.declared.access.Mode.{Mode};
 ghost use Rattle.nx_pmp.specs.declared.matching.Matching.{Matching};
 ghost use Rattle.nx_pmp.specs.declared.matching.Range.{Range};
 ghost use Rattle.nx_pmp.specs.declared.pmp.Pmp.{Pmp};

@@ -1,3 +1,4 @@
+use nx_base::OutOfMemory;
 //! Answers questions about the protection of memory. Each line of standard input is a request, with
 //! its numbers in decimal: `entry PLACE CFG ADDR` sets an entry of PMP, `allows AT LEN ACCESS MODE`
 //! prints `yes` or `no`; `memory BYTES` makes a RAM of zeros, `word PLACE VALUE` stores a word in it,
@@ -12,7 +13,7 @@ use anyhow::{Context, Result};
 use nx_pmp::{Pmp, PmpEntry};
 use nx_ram::Ram;
 use request::{Request, parse_request};
-use std::alloc::{AllocError, Global};
+use std::alloc::Global;
 use std::io::{BufRead, BufReader};
 
 /// The entries and the RAM that the questions are about.
@@ -23,7 +24,7 @@ struct Board {
 }
 
 impl Board {
-    fn new(alloc: Global) -> Result<Board, AllocError> {
+    fn new(alloc: Global) -> Result<Board, OutOfMemory> {
         let off = PmpEntry { cfg: 0, addr: 0 };
         let ram = Ram::new(alloc, 0)?;
         Ok(Board {

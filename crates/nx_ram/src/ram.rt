@@ -2,8 +2,8 @@ ghost use Rattle.std.specs.Prelude.{◌≡◌, ◌+◌, ◌*◌, ◌≤◌, ◌^
 ghost use Rattle.nx_base.specs.ByteLists.{get_bytes, put_bytes, from_le, to_le, AreBytes};
 ghost use Rattle.nx_ram.specs.Widths.{IsWidth};
 
-use nx_base::{get_le32, put_le32};
-use std::alloc::{AllocError, Global};
+use nx_base::{OutOfMemory, get_le32, put_le32};
+use std::alloc::Global;
 use std::marker::Model;
 
 /// The bytes of a RAM. Contracts see their list; places count from its start.
@@ -25,7 +25,7 @@ impl Model for Ram {
 
 impl Ram {
     /// `size` bytes, all of them zero.
-    pub fn new(alloc: Global, size: u32) -> Result<Ram, AllocError>
+    pub fn new(alloc: Global, size: u32) -> Result<Ram, OutOfMemory>
         ensures { IfOk result (λ ram. ram ≡ replicate size 0) }
     {
         let bytes = vec![in alloc; 0u8; size as usize]?;

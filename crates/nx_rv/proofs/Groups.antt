@@ -2,10 +2,10 @@
 use Rattle.std.proofs.Common.{◌≡◌, ℕ, ◌%◌, ◌<◌, Bool, true, false, Option, Some, refl, sym, ap, ◌∙◌, subst, arith, ⊎_elim, inl, inr}
 use Rattle.std.specs.Prelude.{ℤ, if◌then◌else◌, ◌==◌, ◌&&◌}
 use Rattle.std.proofs.lemmas.Bool.Decides.{nat_tests}
-use Rattle.nx_base.specs.declared.kinds.AluOp.{AluOp}
-use Rattle.nx_base.specs.declared.kinds.AluOp.TheVariants as op
-use Rattle.nx_base.specs.declared.kinds.Cond.{Cond}
-use Rattle.nx_base.specs.declared.kinds.Cond.TheVariants as cond
+use Rattle.nx_base.specs.declared.operations.AluOp.{AluOp}
+use Rattle.nx_base.specs.declared.operations.AluOp.TheVariants as op
+use Rattle.nx_base.specs.declared.operations.Cond.{Cond}
+use Rattle.nx_base.specs.declared.operations.Cond.TheVariants as cond
 use Rattle.nx_rv.specs.declared.inst.Inst.{Inst}
 use Rattle.nx_rv.specs.declared.inst.Inst.TheVariants.{Branch, Load, Store, Op}
 use Rattle.nx_rv.specs.Formats.{pack, low_bits, pack_i, pack_s, pack_b}

@@ -1,9 +1,9 @@
 -- Words, instructions and rows.
 use Rattle.std.proofs.Common.{◌≡◌, ℕ, ◌*◌, ◌/◌, ◌%◌, ◌^◌, ◌<◌, true, false, Option, Some, None, refl, sym, ap, ◌∙◌, subst, arith, ⊎_elim, inl, inr}
 use Rattle.std.specs.Prelude.{ℤ, pos, IfSome, MatchOption}
-use Rattle.nx_base.specs.declared.kinds.AluOp.{AluOp}
-use Rattle.nx_base.specs.declared.kinds.AluOp.TheVariants as op
-use Rattle.nx_base.specs.declared.kinds.Cond.TheVariants as cond
+use Rattle.nx_base.specs.declared.operations.AluOp.{AluOp}
+use Rattle.nx_base.specs.declared.operations.AluOp.TheVariants as op
+use Rattle.nx_base.specs.declared.operations.Cond.TheVariants as cond
 use Rattle.nx_rv.specs.declared.inst.Inst.{Inst}
 use Rattle.nx_rv.specs.declared.inst.Inst.TheVariants.{Lui, Auipc, Jal, Jalr, Branch, Load, Store, OpImm, Op, Fence, Ecall, Ebreak}
 use Rattle.nx_rv.specs.Formats.{pack, opcode, rd_of, funct3, rs1_of, rs2_of, funct7, low_bits, imm_i, imm_s, imm_b, imm_u, imm_j, pack_i, pack_s}

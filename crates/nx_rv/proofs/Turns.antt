@@ -4,7 +4,7 @@ use Rattle.std.specs.Prelude.{ℤ, pos, ◌==◌, if◌then◌else◌}
 use Rattle.std.proofs.lemmas.Bool.{cases_eq}
 use Rattle.std.proofs.lemmas.Bool.Decides.{nat_tests}
 use Rattle.nx_base.specs.declared.regs.Regs.{Regs}
-use Rattle.nx_base.specs.declared.kinds.AluOp.TheVariants as op
+use Rattle.nx_base.specs.declared.operations.AluOp.TheVariants as op
 use Rattle.nx_base.specs.Arithmetic.{alu_of}
 use Rattle.nx_base.specs.Registers.{reg, with_reg}
 use Rattle.nx_base.specs.Views.{View, fetch_word}

@@ -1,9 +1,9 @@
 -- The funct3 and funct7 of each row that has its opcode with others.
 use Rattle.std.specs.Prelude.{ℕ, ◌==◌, ◌&&◌, Bool, true, false, if◌then◌else◌, Option, Some, None, ℤ, pos}
-use Rattle.nx_base.specs.declared.kinds.AluOp.{AluOp}
-use Rattle.nx_base.specs.declared.kinds.AluOp.TheVariants as op
-use Rattle.nx_base.specs.declared.kinds.Cond.{Cond}
-use Rattle.nx_base.specs.declared.kinds.Cond.TheVariants as cond
+use Rattle.nx_base.specs.declared.operations.AluOp.{AluOp}
+use Rattle.nx_base.specs.declared.operations.AluOp.TheVariants as op
+use Rattle.nx_base.specs.declared.operations.Cond.{Cond}
+use Rattle.nx_base.specs.declared.operations.Cond.TheVariants as cond
 use Rattle.nx_rv.specs.declared.inst.Inst.{Inst}
 use Rattle.nx_rv.specs.declared.inst.Inst.TheVariants.{Jalr, Branch, Load, Store, OpImm, Op, Fence, Ecall, Ebreak}
 

@@ -4,8 +4,8 @@ use Rattle.std.specs.Prelude.{if◌then◌else◌, nat_le, not}
 use Rattle.std.specs.Option.{is_some}
 use Rattle.std.proofs.lemmas.Bool.{cases_lt}
 use Rattle.std.proofs.lemmas.Bool.Decides.{nat_tests}
-use Rattle.nx_base.specs.declared.kinds.Access.{Access}
-use Rattle.nx_base.specs.declared.kinds.Access.TheVariants.{Fetch, Load, Store}
+use Rattle.nx_base.specs.declared.access.Access.{Access}
+use Rattle.nx_base.specs.declared.access.Access.TheVariants.{Fetch, Load, Store}
 use Rattle.nx_base.specs.Good.{is_good}
 use Rattle.nx_space.specs.World.{Home, Common, Part, IsEntered, view_in}
 use Rattle.nx_space.specs.Places.{Place, lies_in, place_in}

@@ -6,7 +6,7 @@ use Rattle.std.proofs.lemmas.Bool.{cases_eq}
 use Rattle.std.proofs.lemmas.Bool.Decides.{nat_tests}
 use Rattle.std.proofs.lemmas.List.{length-set, length-replicate}
 use Rattle.nx_base.specs.ByteLists.{put_bytes}
-use Rattle.nx_base.specs.declared.kinds.Access.{Access}
+use Rattle.nx_base.specs.declared.access.Access.{Access}
 use Rattle.nx_base.proofs.Puts.{put_bytes-none, length-put_bytes}
 use Rattle.nx_space.specs.World.{Home, Common, Own, Part, Group, Plan, World, has_view, group_of, bytes_in, bytes_of, seen_by, view_of, window_of, pool_of}
 use Rattle.nx_space.specs.Places.{Place, place_in, written_at, put_home, put_into, with_bytes, is_past, is_clear}

@@ -2,7 +2,7 @@
 use Rattle.std.proofs.Common.{◌≡◌, ℕ, ◌+◌, ◌-◌, ◌==◌, ◌<◌, ◌≤◌, Bool, true, false, List, [], ◌∷◌, length, take, sym, ap, ◌∙◌, arith, refl}
 use Rattle.std.specs.Prelude.{slice_index, if◌then◌else◌}
 use Rattle.std.proofs.lemmas.List.{length-take, ext_get_or, get_or-take}
-use Rattle.nx_base.specs.declared.kinds.Access.{Access}
+use Rattle.nx_base.specs.declared.access.Access.{Access}
 use Rattle.nx_base.specs.Good.{is_good}
 use Rattle.nx_space.specs.World.{Home, Common, Own, Part, Group, Plan, World, IsEntered, has_view, group_of, group_in, bytes_in, view_in, pool_of}
 use Rattle.nx_space.specs.Places.{with_own}

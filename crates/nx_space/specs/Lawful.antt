@@ -1,7 +1,7 @@
 -- What holds of every world, and what an access may change.
 use Rattle.std.specs.Prelude.{◌≡◌, ◌≢◌, ℕ, ◌+◌, ◌%◌, ◌==◌, ◌<◌, ◌≤◌, ◌⊎◌, Bool, true, false, List, [], ◌∷◌, length, slice_index}
 use Rattle.std.specs.List.{list_any}
-use Rattle.nx_base.specs.declared.kinds.Access.{Access}
+use Rattle.nx_base.specs.declared.access.Access.{Access}
 use Rattle.nx_base.specs.Good.{is_good}
 use Rattle.nx_space.specs.World.{Home, Common, Own, Part, Group, Plan, World, has_view, group_of, group_in, bytes_in, bytes_of, seen_by, view_of}
 use Rattle.nx_space.specs.Places.{written_at, with_own, is_clear}

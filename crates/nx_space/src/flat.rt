@@ -4,10 +4,10 @@ ghost use Rattle.nx_space.specs.Flat.{flat_world, is_flat_good};
 
 use crate::shared::{RAM_START, SharedRam};
 use crate::space::Space;
-use nx_base::{Access, Regs};
+use nx_base::{Access, OutOfMemory, Regs};
 use nx_frames::TooFew;
 use nx_ram::{ProgImage, Ram};
-use std::alloc::{AllocError, Global};
+use std::alloc::Global;
 
 /// One window over the whole RAM, which every group may read, write and run.
 #[derive(Drop)]
@@ -26,7 +26,7 @@ impl FlatSpace {
         stacks_at: u32,
         stack: u32,
         threads: u32,
-    ) -> Result<FlatSpace, AllocError>
+    ) -> Result<FlatSpace, OutOfMemory>
         requires { FitsRam (length ram) programs.items stacks_at stack threads }
         ensures { IfOk result (λ space. ⟦<FlatSpace as Space>⟧.world space ≡ flat_world (record { ram = ram; size = length ram; programs = programs.items; stacks_at = stacks_at; stack = stack; threads = threads; live = []; entered = 0 })) }
     {

@@ -1,5 +1,5 @@
 ghost use Rattle.std.specs.Prelude.{◌≡◌, ◌≢◌, ℕ, ◌<◌, Bool, true, false, length};
-ghost use Rattle.nx_base.specs.declared.kinds.Access.{Access};
+ghost use Rattle.nx_base.specs.declared.access.Access.{Access};
 ghost use Rattle.nx_base.specs.Good.{is_good};
 ghost use Rattle.nx_space.specs.World.{World, Plan, Common, IsEntered, has_view, group_of, group_in, view_of, view_in, pool_of};
 ghost use Rattle.nx_space.specs.Lawful.{IsWorld, IsOutside, OnlyEntered, IsLeft};

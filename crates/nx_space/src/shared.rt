@@ -5,9 +5,9 @@ ghost use Rattle.nx_space.specs.declared.shared.Live.{Live};
 ghost use Rattle.nx_space.specs.Starts.{regs_with, start_regs, thread_regs, program_of};
 ghost use Rattle.nx_space.specs.Shared.{ram_start, ram_place, has_live, place_of, shared_group, shared_plan, FitsRam, IsSharing, LieInRam, with_stack_zeroed, sharing_started, sharing_finished};
 
-use nx_base::Regs;
+use nx_base::{OutOfMemory, Regs};
 use nx_ram::{ProgImage, Ram};
-use std::alloc::{AllocError, Global};
+use std::alloc::Global;
 use std::marker::Model;
 
 /// The address of the RAM's first byte.
@@ -91,7 +91,7 @@ impl SharedRam {
         stacks_at: u32,
         stack: u32,
         threads: u32,
-    ) -> Result<SharedRam, AllocError>
+    ) -> Result<SharedRam, OutOfMemory>
         requires { FitsRam (length ram) programs.items stacks_at stack threads }
         ensures new { IfOk result (λ s. s ≡ record { ram = ram; size = length ram; programs = programs.items; stacks_at = stacks_at; stack = stack; threads = threads; live = []; entered = 0 }) }
         ensures kept { IfOk result IsSharing }

@@ -1,5 +1,5 @@
 ghost use Rattle.std.specs.Prelude.{◌≡◌, ℕ, ◌*◌, ◌^◌, ◌<◌, ◌≤◌, ◌%◌, true, false, length, Ok, Err, MatchResult, IfOk, IfErr, OnOk, OnErr};
-ghost use Rattle.nx_base.specs.declared.kinds.Access.TheVariants as access;
+ghost use Rattle.nx_base.specs.declared.access.Access.TheVariants as access;
 ghost use Rattle.nx_base.specs.ByteLists.{AreBytes};
 ghost use Rattle.nx_base.specs.Views.{fetch_word, load_bytes, store_bytes};
 ghost use Rattle.nx_base.specs.Good.{is_good};

@@ -3,13 +3,13 @@ ghost use Rattle.nx_ram.specs.Widths.{IsWidth};
 ghost use Rattle.nx_space.specs.World.{IsEntered, has_view};
 
 use super::*;
-use nx_base::{Access, Bytes, Text};
+use nx_base::{OutOfMemory, Access, Bytes, Text};
 use nx_ram::{ProgImage, Ram};
-use std::alloc::{AllocError, Global};
+use std::alloc::Global;
 use std::test::Fail;
 
 // A RAM of 128 bytes: a text of 8 at its start, data of 4 at 32, and two stacks of 16 from 64 on.
-fn board(alloc: Global) -> Result<FlatSpace, AllocError>
+fn board(alloc: Global) -> Result<FlatSpace, OutOfMemory>
     ensures groups { IfOk result (λ space. (⟦<FlatSpace as Space>⟧.world space).groups ≡ []) }
     ensures threads { IfOk result (λ space. (⟦<FlatSpace as Space>⟧.world space).plan.threads ≡ 2) }
     ensures programs { IfOk result (λ space. length (⟦<FlatSpace as Space>⟧.world space).plan.programs ≡ 1) }
@@ -34,7 +34,7 @@ fn board(alloc: Global) -> Result<FlatSpace, AllocError>
 
 // The same board, with the view of a group that has started.
 #[tactic(auto, unfolding(crate::specs::World::has_view), using(crate::proofs::Joins::started_has_view))]
-fn running(alloc: Global) -> Result<FlatSpace, AllocError>
+fn running(alloc: Global) -> Result<FlatSpace, OutOfMemory>
     ensures entered { IfOk result (λ space. (⟦<FlatSpace as Space>⟧.world space).entered ≡ 7) }
     ensures view { IfOk result (λ space. has_view (⟦<FlatSpace as Space>⟧.world space).groups 7 ≡ true) }
     ensures threads { IfOk result (λ space. (⟦<FlatSpace as Space>⟧.world space).plan.threads ≡ 2) }
@@ -42,7 +42,7 @@ fn running(alloc: Global) -> Result<FlatSpace, AllocError>
     let mut space = board(alloc)?;
     match space.start(7, 0, 0, true) {
         Ok(_) => {}
-        Err(_) => return Err(AllocError),
+        Err(_) => return Err(OutOfMemory),
     }
     space.enter(7);
     Ok(space)

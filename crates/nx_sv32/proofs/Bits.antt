@@ -1,8 +1,8 @@
 -- The bits of an entry, as tests and as facts.
 use Rattle.std.proofs.Common.{◌≡◌, ℕ, ◌/◌, ◌%◌, Bool, true, false, ◌&&◌, ◌||◌, not, refl, ap, ◌∙◌, arith, eq-eqb}
 use Rattle.std.proofs.lemmas.Bool.Decides.{nat_tests}
-use Rattle.nx_base.specs.declared.kinds.Access.{Access}
-use Rattle.nx_base.specs.declared.kinds.Access.TheVariants.{Fetch, Load, Store}
+use Rattle.nx_base.specs.declared.access.Access.{Access}
+use Rattle.nx_base.specs.declared.access.Access.TheVariants.{Fetch, Load, Store}
 use Rattle.nx_sv32.specs.Entries.{has, is_refused, is_leaf, is_pointer, has_right, permits}
 use Rattle.nx_sv32.specs.Translation.{IsSet, IsClear, PointsToTable, HasRight, IsPermittedBy}
 

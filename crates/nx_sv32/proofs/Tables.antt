@@ -2,7 +2,7 @@
 use Rattle.std.proofs.Common.{◌≡◌, ℕ, zero, suc, ◌+◌, ◌-◌, ◌*◌, ◌/◌, ◌%◌, ◌^◌, ◌<◌, ◌≤◌, cond, List, length, get_or, Option, Some, None, refl, ap, sym, ◌∙◌, subst, arith, ⊎_elim, inl, inr}
 use Rattle.std.specs.Prelude.{nat_le}
 use Rattle.nx_base.specs.ByteLists.{get_bytes, from_le}
-use Rattle.nx_base.specs.declared.kinds.Access.{Access}
+use Rattle.nx_base.specs.declared.access.Access.{Access}
 use Rattle.nx_sv32.specs.Entries.{page_number, is_refused, is_leaf, is_pointer}
 use Rattle.nx_sv32.specs.Walk.{ram_start, first_number, last_number, page_offset, superpage_offset, root_number, entry_at, table_place, superpage_leaf, last_entry, last_table, first_entry, first_table, walk}
 use Rattle.nx_sv32.specs.Translation.{table_entry, PointsToTable, IsPermittedBy, LiesInRam, IsInRam, IsInPage, IsInSuperpage, SamePage}

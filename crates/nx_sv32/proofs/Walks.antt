@@ -2,7 +2,7 @@
 use Rattle.std.proofs.Common.{◌≡◌, ℕ, ◌+◌, ◌-◌, ◌*◌, ◌%◌, ◌<◌, ◌≤◌, ◌⊎◌, Bool, true, false, ◌&&◌, eqb, cond, List, length, Option, Some, None, refl, ap, sym, ◌∙◌, subst, arith, eq-eqb, ⊎_elim, inl, inr}
 use Rattle.std.specs.Prelude.{nat_le}
 use Rattle.std.proofs.lemmas.Bool.{leb-true, leb-false, le-leb, lt-leb, eqb-true}
-use Rattle.nx_base.specs.declared.kinds.Access.{Access}
+use Rattle.nx_base.specs.declared.access.Access.{Access}
 use Rattle.nx_sv32.specs.Entries.{page_number, is_refused, is_leaf, is_pointer, permits}
 use Rattle.nx_sv32.specs.Walk.{ram_start, first_number, last_number, page_offset, superpage_offset, root_number, entry_at, table_place, in_ram, page_leaf, superpage_leaf, last_entry, last_table, first_entry, first_table, walk}
 use Rattle.nx_sv32.specs.Translation.{LiesInRam, table_entry, PointsToTable, IsPermittedBy, IsInRam, IsInPage, IsInSuperpage, IsTranslated}

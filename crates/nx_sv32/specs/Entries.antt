@@ -1,7 +1,7 @@
 -- Page table entries. RISC-V Privileged Architecture 1.12, section 4.3.1.
 use Rattle.std.specs.Prelude.{ℕ, ◌/◌, ◌%◌, ◌==◌, Bool, ◌&&◌, ◌||◌, not}
-use Rattle.nx_base.specs.declared.kinds.Access.{Access}
-use Rattle.nx_base.specs.declared.kinds.Access.TheVariants.{Fetch, Load, Store}
+use Rattle.nx_base.specs.declared.access.Access.{Access}
+use Rattle.nx_base.specs.declared.access.Access.TheVariants.{Fetch, Load, Store}
 
 -- whether the bit of a weight is set: 1 V, 2 R, 4 W, 8 X, 16 U, 32 G, 64 A, 128 D
 unfoldable pub has : ℕ → ℕ → Bool

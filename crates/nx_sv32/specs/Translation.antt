@@ -1,7 +1,7 @@
 -- When an address is translated. RISC-V Privileged Architecture 1.12, sections 4.3.1 and 4.3.2.
 use Rattle.std.specs.Prelude.{◌≡◌, ◌⊎◌, ℕ, ◌+◌, ◌-◌, ◌*◌, ◌/◌, ◌%◌, ◌<◌, ◌≤◌, List, length, slice_index}
-use Rattle.nx_base.specs.declared.kinds.Access.{Access}
-use Rattle.nx_base.specs.declared.kinds.Access.TheVariants.{Fetch, Load, Store}
+use Rattle.nx_base.specs.declared.access.Access.{Access}
+use Rattle.nx_base.specs.declared.access.Access.TheVariants.{Fetch, Load, Store}
 use Rattle.nx_sv32.specs.Entries.{page_number}
 use Rattle.nx_sv32.specs.Walk.{ram_start, first_number, last_number, page_offset, superpage_offset, root_number, entry_at}
 

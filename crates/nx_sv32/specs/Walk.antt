@@ -1,7 +1,7 @@
 -- What the page tables in a RAM make of an address. RISC-V Privileged Architecture 1.12, section 4.3.2.
 use Rattle.std.specs.Prelude.{ℕ, ◌+◌, ◌-◌, ◌*◌, ◌/◌, ◌%◌, ◌==◌, ◌&&◌, nat_le, if◌then◌else◌, List, length, Option, Some, None, Result, Ok, Err}
 use Rattle.nx_base.specs.ByteLists.{get_bytes, from_le}
-use Rattle.nx_base.specs.declared.kinds.Access.{Access}
+use Rattle.nx_base.specs.declared.access.Access.{Access}
 use Rattle.nx_sv32.specs.declared.sv32.PageFault.{PageFault}
 use Rattle.nx_sv32.specs.Entries.{page_number, is_refused, is_leaf, is_pointer, permits}
 

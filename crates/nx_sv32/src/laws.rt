@@ -1,5 +1,5 @@
 ghost use Rattle.std.specs.Prelude.{◌≡◌, ◌↔◌, ℕ, ◌+◌, ◌*◌, ◌/◌, ◌%◌, ◌^◌, ◌<◌, ◌≤◌, List, length, Some};
-ghost use Rattle.nx_base.specs.declared.kinds.Access.{Access};
+ghost use Rattle.nx_base.specs.declared.access.Access.{Access};
 ghost use Rattle.nx_sv32.specs.Entries.{page_number};
 ghost use Rattle.nx_sv32.specs.Walk.{walk, first_number, page_offset, root_number};
 ghost use Rattle.nx_sv32.specs.Translation.{IsTranslated, IsInRam, SamePage, table_entry};

@@ -1,7 +1,7 @@
 use super::*;
-use nx_base::Access;
+use nx_base::{OutOfMemory, Access};
 use nx_ram::Ram;
-use std::alloc::{AllocError, Global};
+use std::alloc::Global;
 use std::test::Fail;
 
 // The mode, an ASID and the root's page number, 0x80000.
@@ -37,7 +37,7 @@ const ENTRIES: [(u32, u32); 23] = [
     (0x1028, 0x1FFFFCDF), // a page before the RAM
 ];
 
-fn mapped(alloc: Global) -> Result<Ram, AllocError> {
+fn mapped(alloc: Global) -> Result<Ram, OutOfMemory> {
     let mut ram = Ram::new(alloc, SIZE)?;
     for (place, entry) in ENTRIES {
         if place <= SIZE - 4 && ram.len() == SIZE {

@@ -2,7 +2,7 @@
 use Rattle.std.specs.Prelude.{ℕ, ◌+◌, ◌-◌, ◌*◌, ◌/◌, ◌%◌, List, [], ◌∷◌, ◌++◌, length, replicate, ℤ, pos, ◌-ℤ◌}
 use Rattle.std.specs.List.{flat_map}
 use Rattle.nx_base.specs.ByteLists.{to_le}
-use Rattle.nx_base.specs.declared.kinds.AluOp.TheVariants.{Add}
+use Rattle.nx_base.specs.declared.operations.AluOp.TheVariants.{Add}
 use Rattle.nx_rv.specs.declared.inst.Inst.{Inst}
 use Rattle.nx_rv.specs.declared.inst.Inst.TheVariants.{Lui, Jal, Jalr, OpImm, Ecall}
 use Rattle.nx_rv.specs.Table.{encode_of}

@@ -1,5 +1,5 @@
 ghost use Rattle.std.specs.Prelude.{◌≡◌, ℕ, List, ◌++◌, true, length, OnOk};
-ghost use Rattle.nx_base.specs.declared.kinds.Access.TheVariants as access;
+ghost use Rattle.nx_base.specs.declared.access.Access.TheVariants as access;
 ghost use Rattle.nx_space.specs.World.{view_in, IsEntered};
 ghost use Rattle.nx_space.specs.Good.{good_in};
 ghost use Rattle.nx_top.specs.Guests.{LiesAt};

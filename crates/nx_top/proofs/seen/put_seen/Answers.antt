@@ -1,5 +1,5 @@
 use Rattle.std.proofs.Common.{◌≡◌, ◌+◌, true, sym, ◌∙◌, subst, arith, Ok}
-use Rattle.nx_base.specs.declared.kinds.Access.TheVariants as access
+use Rattle.nx_base.specs.declared.access.Access.TheVariants as access
 use Rattle.nx_base.specs.Views.{load_bytes}
 use Rattle.nx_space.specs.World.{World, view_in}
 use Rattle.nx_space.specs.Good.{good_in}

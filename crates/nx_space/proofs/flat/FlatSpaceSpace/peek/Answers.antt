@@ -1,5 +1,5 @@
 use Rattle.std.proofs.Common.{◌∙◌, [], ◌∷◌, ap, sym, refl, Ok, arith}
-use Rattle.nx_base.specs.declared.kinds.Access.TheVariants.{Load}
+use Rattle.nx_base.specs.declared.access.Access.TheVariants.{Load}
 use Rattle.nx_space.specs.Flat.{flat_part, flat_lawful}
 use Rattle.nx_space.proofs.SharedAccesses.{spot, load_some}
 use Rattle.nx_space.proofs.FlatLemmas.{good_inside, place_flat, place_inside}

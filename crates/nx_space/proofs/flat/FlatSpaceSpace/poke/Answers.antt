@@ -1,5 +1,5 @@
 use Rattle.std.proofs.Common.{◌∙◌, [], ◌∷◌, ap, sym, subst, refl, arith}
-use Rattle.nx_base.specs.declared.kinds.Access.TheVariants.{Store}
+use Rattle.nx_base.specs.declared.access.Access.TheVariants.{Store}
 use Rattle.nx_space.specs.Flat.{flat_part, flat_world, flat_lawful}
 use Rattle.nx_space.proofs.Stores.{Stored}
 use Rattle.nx_space.proofs.SharedAccesses.{spot, store_some}

@@ -1,5 +1,5 @@
 use Rattle.std.proofs.Common.{◌≡◌, true}
-use Rattle.nx_base.specs.declared.kinds.Access.TheVariants as access
+use Rattle.nx_base.specs.declared.access.Access.TheVariants as access
 use Rattle.nx_space.specs.World.{view_in}
 use Rattle.nx_space.specs.Good.{good_in}
 use Rattle.nx_top.proofs.SeenLemmas.{good_of}

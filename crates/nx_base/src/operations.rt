@@ -1,35 +1,3 @@
-/// What an access to memory is for.
-#[derive(Clone, Copy, Debug, PartialEq, Eq)]
-pub enum Access {
-    /// To execute an instruction.
-    Fetch,
-    /// To read a number.
-    Load,
-    /// To write a number.
-    Store,
-}
-
-/// The privilege of an access. RISC-V Privileged Architecture 1.12, section 1.2.
-#[derive(Clone, Copy, Debug, PartialEq, Eq)]
-pub enum Mode {
-    /// The lowest privilege: programs, where the build has a boundary.
-    User,
-    /// The highest privilege.
-    Machine,
-}
-
-/// The three memory configurations: one image without a boundary, a kernel and a user part that
-/// PMP divides, one Sv32 address space for each task group.
-#[derive(Clone, Copy, Debug, PartialEq, Eq)]
-pub enum Build {
-    /// One image without a boundary.
-    Flat,
-    /// A kernel part and a user part, which PMP divides.
-    Protected,
-    /// One Sv32 address space for each task group.
-    Kernel,
-}
-
 /// An operation on two words. RISC-V Unprivileged ISA, RV32I 2.1 section 2.4 and M 2.0.
 #[derive(Clone, Copy, Debug, PartialEq, Eq)]
 pub enum AluOp {
