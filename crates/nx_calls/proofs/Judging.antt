@@ -3,7 +3,6 @@ use Rattle.std.proofs.Common.{◌≡◌, ℕ, suc, ◌+◌, ◌-◌, ◌<◌, �
 use Rattle.std.proofs.lemmas.Grind.{common_steps}
 use Rattle.std.proofs.lemmas.List.{map-append, length-map, length-take-le, take-append-drop, take_all}
 use Rattle.std.proofs.Math.Seq.{take-suc}
-
 use Rattle.nx_conditions.specs.declared.condition.Condition.{Condition}
 use Rattle.nx_conditions.specs.declared.meaning.Meaning.{Meaning}
 use Rattle.nx_conditions.specs.declared.stop.ConditionStop.{ConditionStop}
@@ -14,7 +13,6 @@ use Rattle.nx_calls.specs.declared.fault.RowStop.{RowStop}
 use Rattle.nx_calls.specs.declared.fault.RowStop.TheVariants as stop
 use Rattle.nx_calls.specs.declared.row.CallRow.{CallRow}
 use Rattle.nx_calls.specs.Rows.{Verdict, is_c_name, parameters, declared_row, IsWorth, Says, Taken}
-use Rattle.nx_calls.specs.declared.fault.CallsFault.{CallsFault}
 use Rattle.nx_calls.specs.declared.fault.CallsFault.TheVariants as fault
 use Rattle.nx_calls.specs.Table.{cells_of, HaveRows, False, True, Give, Fault, IsReadOf}
 use Rattle.csv.specs.Records.{Row, fields_of}

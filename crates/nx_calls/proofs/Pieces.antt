@@ -2,7 +2,7 @@
 use Rattle.std.proofs.Common.{◌≡◌, ℕ, Bool, true, false, cond, not, ◌&&◌, if◌then◌else◌, List, [], ◌∷◌, ◌++◌, Result, Ok, Err, append_assoc, refl, sym, ap, ◌∙◌}
 use Rattle.std.proofs.lemmas.List.{append-nil}
 use Rattle.std.proofs.lemmas.List.Folds.{list_all-append}
-use Rattle.std.specs.Prelude.{◌==◌, codes, OnOk}
+use Rattle.std.specs.Prelude.{◌==◌, OnOk}
 use Rattle.std.specs.List.{list_all, filter, concat}
 use Rattle.nx_base.specs.TextBytes.{is_word_byte}
 use Rattle.nx_calls.specs.Types.{onto_word, pieces_of, is_far, without_far}

@@ -1,5 +1,5 @@
 -- What records give, record by record: a reading with the number of the record that is next and the rows so far.
-use Rattle.std.proofs.Common.{◌≡◌, ℕ, ◌+◌, List, [], ◌∷◌, ◌++◌, length, map, append_assoc, Option, None, Some, Result, Ok, Err, sym, subst, arith, length-append}
+use Rattle.std.proofs.Common.{◌≡◌, ℕ, ◌+◌, List, [], ◌∷◌, ◌++◌, length, append_assoc, Option, None, Some, Result, Ok, Err, sym, subst, arith, length-append}
 use Rattle.std.proofs.lemmas.List.{append-nil}
 use Rattle.nx_conditions.specs.declared.meaning.Meaning.{Meaning}
 use Rattle.nx_calls.specs.declared.fault.CallsKind.{CallsKind}

@@ -1,7 +1,7 @@
 -- The words of a part, byte by byte.
 use Rattle.std.proofs.Common.{◌≡◌, ℕ, Bool, true, false, cond, List, [], ◌∷◌, ◌++◌, refl, sym, ap, ◌∙◌}
 use Rattle.std.proofs.lemmas.List.{append-nil}
-use Rattle.std.specs.List.{onto_first, slice_split, join_with_byte}
+use Rattle.std.specs.List.{onto_first, join_with_byte}
 use Rattle.nx_base.specs.TextBytes.{is_line_blank, without_leading}
 use Rattle.nx_calls.specs.Types.{filled, between_blanks, spaced, added}
 

@@ -1,6 +1,6 @@
 -- What a row of the call table says.
 use Rattle.std.specs.Prelude.{◌≡◌, ℕ, ◌+◌, ◌<◌, ◌≤◌, Bool, true, false, not, ◌&&◌, ◌||◌, nat_le, nat_lt, if◌then◌else◌, List, [], ◌∷◌, All, length, map, codes, Option, None, Some, Result, Ok, Err}
-use Rattle.std.specs.List.{filter, list_any, list_all}
+use Rattle.std.specs.List.{filter, list_any}
 use Rattle.std.specs.Str.{bytes_eq}
 use lib.Pointwise.{pointwise}
 use denote.Enum.Bare.{sameb}

@@ -21,6 +21,7 @@ pub struct Calls {
 impl Model for Calls {
     ghost use Rattle.std.specs.Prelude.{List};
     ghost use Rattle.nx_calls.specs.declared.row.CallRow.{CallRow};
+
     ghost Value = { List CallRow };
 
     ghost view = { λ c. c.rows.items };

@@ -39,7 +39,10 @@ fn tables_are_read_as_the_script_reads_them(rt: HostRuntime) -> Result<(), Fail>
             "waitpid,h,N==5,int,int,int FAR *,int\n\"write\",\"nxsim.h\",\"\",\"int\",\"int\",\"FAR const void *\",\"size_t\"\ng,h,Q||A,void,struct x *,FAR|FAR",
             "3: bad type",
         ),
-        ("\u{feff}h,\"a,b\nc\",!Q, FAR int\tFAR ,\"x y\"\ndup,h,,int,int*\n", "2: signature"),
+        (
+            "\u{feff}h,\"a,b\nc\",!Q, FAR int\tFAR ,\"x y\"\ndup,h,,int,int*\n",
+            "2: signature",
+        ),
         (
             "mq_send,h,,int,x | int,const char  *,FAR size_t,unsigned int\nwaitpid,h,N==5,int,int,int FAR *,int\ndup,h,,int|void *,int\n\n",
             "3: signature",

@@ -25,7 +25,7 @@ fn byte_records(alloc: Global, text: &[u8]) -> Result<Vec<ByteRecord>, Error>
 }
 
 /// Every record of a text, of any lengths. A slice has no failing reads and any length is good, so
-/// each error stands for want of memory.
+/// each error stands for out of memory.
 pub(crate) fn records(alloc: Global, text: &[u8]) -> Result<Vec<ByteRecord>, AllocError>
     ensures are { IfOk result (λ v. AreRecords default_config st.StartRecord (strip_bom text.now) (map fields_of v.items)) }
     ensures few { IfOk result (λ v. length v.items ≤ length text.now + 1) }

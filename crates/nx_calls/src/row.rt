@@ -90,7 +90,11 @@ fn words(types: &[CallType]) -> ArrayVec<Kind, 6>
 }
 
 #[tactic(auto, unfolding(crate::specs::Rows::kinds_in))]
-fn kinds_in(call: Option<KCall>, return_type: &CallType, types: &[CallType]) -> Option<ArrayVec<Kind, 6>>
+fn kinds_in(
+    call: Option<KCall>,
+    return_type: &CallType,
+    types: &[CallType],
+) -> Option<ArrayVec<Kind, 6>>
     requires { length types.now ≤ 6 }
     ensures { option_map (λ kinds. kinds.items) result ≡ kinds_in_row call return_type.now types.now }
 {

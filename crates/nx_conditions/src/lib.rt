@@ -13,9 +13,9 @@ mod token;
 mod tokenize;
 
 pub use condition::Condition;
+pub use evaluate::{holds, value};
 pub use meaning::{Meaning, Meanings};
 pub use read::read_condition;
 pub use stop::ConditionStop;
 pub use token::{Comparison, Token};
 pub use tokenize::tokens;
-pub use evaluate::{holds, value};

@@ -1,4 +1,4 @@
-use Rattle.std.proofs.Common.{◌≡◌, Some, None, ◌∷◌, [], sym, ap, ◌∙◌, arith, ◌-◌, drop, length, length-append, length-take, length-drop}
+use Rattle.std.proofs.Common.{◌∷◌, [], ap, arith, ◌-◌, drop, length, length-append, length-take, length-drop}
 use Rattle.nx_calls.proofs.KindLists.{found_start, found_next, found_none, found_end}
 use Rattle.nx_calls.proofs.kinds.kinds_of.Goals as goal
 

@@ -1,4 +1,4 @@
-use Rattle.std.proofs.Common.{◌≡◌, ◌++◌, [], true, drop}
+use Rattle.std.proofs.Common.{◌≡◌, ◌++◌, true, drop}
 use Rattle.std.specs.List.{list_all}
 use Rattle.nx_base.specs.TextBytes.{is_word_byte}
 use Rattle.nx_calls.specs.Types.{without_far}
