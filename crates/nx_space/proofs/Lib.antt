@@ -12,3 +12,4 @@ pub mod Sharings
 pub mod SharedAccesses
 pub mod SharedStarts
 pub mod FlatLemmas
+pub mod Allowed

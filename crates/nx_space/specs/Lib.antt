@@ -4,3 +4,4 @@ pub mod Starts
 pub mod Lawful
 pub mod Shared
 pub mod Flat
+pub mod Protected
