@@ -2,9 +2,9 @@
 use Rattle.std.proofs.Common.{◌≡◌, ℕ, ◌+◌, ◌-◌, ◌*◌, ◌/◌, ◌%◌, ◌<◌, ◌≤◌, ◌⊎◌, ⊎_elim, inl, inr, Bool, true, false, ◌&&◌, List, [], ◌∷◌, replicate, Option, Some, None, refl, sym, ap, ◌∙◌, arith}
 use Rattle.std.specs.Prelude.{if◌then◌else◌, nat_le, nat_lt}
 use Rattle.std.proofs.lemmas.Bool.Decides.{nat_tests}
-use Rattle.nx_base.specs.declared.kinds.Access.{Access}
-use Rattle.nx_base.specs.declared.kinds.Access.TheVariants.{Fetch, Load, Store}
-use Rattle.nx_base.specs.declared.kinds.Mode.TheVariants.{User}
+use Rattle.nx_base.specs.declared.access.Access.{Access}
+use Rattle.nx_base.specs.declared.access.Access.TheVariants.{Fetch, Load, Store}
+use Rattle.nx_base.specs.declared.access.Mode.TheVariants.{User}
 use Rattle.nx_ram.specs.Widths.{IsWidth}
 use Rattle.nx_pmp.specs.declared.matching.Range.{Range}
 use Rattle.nx_pmp.specs.Protection.{permits, decided, rules_from, allows}
@@ -21,7 +21,7 @@ aligned_low low at n w a l h = ⊎_elim (λ e. omega (arith, e)) (λ r. ⊎_elim
 aligned_top : (top at n : ℕ) → IsWidth n → at % n ≡ 0 → top % 4 ≡ 0 → at < top → at + n ≤ top
 aligned_top top at n w a l h = ⊎_elim (λ e. omega (arith, e)) (λ r. ⊎_elim (λ e. let b : at % 2 ≡ 0 = ap (λ k. at % k) (sym e) ∙ a in omega (arith, e)) (λ e. let b : at % 4 ≡ 0 = ap (λ k. at % k) (sym e) ∙ a in omega (arith, e)) r) w
 
-both_ways : (a b : Bool) → (a ≡ true → b ≡ true) → (b ≡ true → a ≡ true) → a ≡ b
+pub both_ways : (a b : Bool) → (a ≡ true → b ≡ true) → (b ≡ true → a ≡ true) → a ≡ b
 both_ways true b f g = sym (f refl)
 both_ways false true f g = g refl
 both_ways false false f g = refl

@@ -13,3 +13,4 @@ pub mod SharedAccesses
 pub mod SharedStarts
 pub mod FlatLemmas
 pub mod Allowed
+pub mod ProtectedLemmas

@@ -1,8 +1,10 @@
 -- Two windows that the entries of physical memory protection allow: the texts, and the data with the stacks.
-use Rattle.std.proofs.Common.{◌≡◌, ℕ, ◌+◌, ◌-◌, ◌*◌, ◌/◌, ◌%◌, ◌<◌, ◌≤◌, ◌^◌, Bool, true, false, ◌&&◌, List, [], ◌∷◌, length, replicate, Option, Some, None, arith, ◌⊎◌, inl, inr}
+use Rattle.std.proofs.Common.{◌≡◌, ℕ, ◌+◌, ◌-◌, ◌*◌, ◌/◌, ◌%◌, ◌<◌, ◌≤◌, ◌^◌, ◌==◌, Bool, true, false, ◌&&◌, ◌||◌, List, [], ◌∷◌, length, replicate, Option, Some, None, arith, ◌⊎◌, inl, inr}
 use Rattle.std.specs.Prelude.{if◌then◌else◌, nat_le, slice_index_or}
 use Rattle.std.proofs.lemmas.Bool.Decides.{nat_tests}
 use Rattle.nx_base.specs.ByteLists.{AreBytes}
+use Rattle.nx_base.specs.declared.access.Access.{Access}
+use Rattle.nx_base.specs.declared.access.Access.TheVariants.{Fetch, Load, Store}
 use Rattle.nx_ram.specs.declared.prog_image.ProgImage.{ProgImage}
 use Rattle.nx_pmp.specs.declared.pmp.PmpEntry.{PmpEntry}
 use Rattle.nx_pmp.specs.declared.pmp.Pmp.{Pmp}
@@ -110,3 +112,18 @@ protected_lawful pmp s h p =
 
 pub protected_bytes : (pmp : Pmp) (s : Sharing) → IsSharing s → (number : ℕ) (home : Home) → AreBytes (seen_by (protected_world pmp s) number home)
 protected_bytes pmp s h number home = shared_bytes (protected_parts pmp) (bound pmp 0 - ram_start) s h number home
+
+-- the bounds between which an access may be made
+abbrev pub low_of : Pmp → Access → ℕ
+low_of pmp Fetch = bound pmp 0
+low_of pmp Load = bound pmp 0
+low_of pmp Store = bound pmp 1
+
+abbrev pub top_of : Pmp → Access → ℕ
+top_of pmp Fetch = bound pmp 1
+top_of pmp Load = bound pmp 2
+top_of pmp Store = bound pmp 2
+
+-- no bytes, or bytes that lie between these bounds
+abbrev pub is_protected_good : Pmp → ℕ → ℕ → Access → Bool
+is_protected_good pmp at n access = (n == 0) || (nat_le (low_of pmp access) at && nat_le (at + n) (top_of pmp access))

@@ -1,9 +1,11 @@
 //! Address spaces: what the groups of a run can read, write and run. The trait `Space` says it of
-//! every layout; `FlatSpace` has one window over the whole RAM.
+//! every layout; `FlatSpace` has one window over the whole RAM, and `PmpSpace` those that its entries
+//! allow.
 #![tactic(auto)]
 
 mod flat;
 mod laws;
+mod protected;
 mod shared;
 mod space;
 
@@ -13,6 +15,7 @@ pub use laws::{
     the_pool_stays, what_is_good_stays_good, without_pages_nothing_needs_a_frame,
 };
 pub use nx_base::Regs;
+pub use protected::PmpSpace;
 pub use shared::{Live, RAM_START};
 pub use space::Space;
 

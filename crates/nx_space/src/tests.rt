@@ -3,7 +3,8 @@ ghost use Rattle.nx_ram.specs.Widths.{IsWidth};
 ghost use Rattle.nx_space.specs.World.{IsEntered, has_view};
 
 use super::*;
-use nx_base::{OutOfMemory, Access, Bytes, Text};
+use nx_base::{Access, Bytes, Mode, OutOfMemory, Text};
+use nx_pmp::Question;
 use nx_ram::{ProgImage, Ram};
 use std::alloc::Global;
 use std::test::Fail;
@@ -103,5 +104,76 @@ fn an_end_of_a_group(rt: HostRuntime) -> Result<(), Fail> {
     let mut space = running(rt.alloc())?;
     assert_eq!(rt; space.good(RAM_START, 1, Access::Store), true);
     space.finish(7);
+    Ok(())
+}
+
+// A RAM of 256 bytes with a pool of 64: texts from 64 on, data from 128 on, and two stacks of 16 from 160 on.
+fn walls(alloc: Global) -> Result<PmpSpace, OutOfMemory>
+    ensures groups { IfOk result (λ space. (⟦<PmpSpace as Space>⟧.world space).groups ≡ []) }
+    ensures threads { IfOk result (λ space. (⟦<PmpSpace as Space>⟧.world space).plan.threads ≡ 2) }
+    ensures programs { IfOk result (λ space. length (⟦<PmpSpace as Space>⟧.world space).plan.programs ≡ 1) }
+{
+    let mut ram = Ram::new(alloc, 256)?;
+    ram.store32(64, 0x00000073);
+    let program = ProgImage {
+        name: Text::from_str(alloc, "p")?,
+        text_at: RAM_START + 64,
+        text: Bytes::from_slice(alloc, &[0x73, 0, 0, 0])?,
+        data_at: RAM_START + 128,
+        init: Bytes::from_slice(alloc, &[1, 2, 3, 4])?,
+        main: RAM_START + 64,
+        end_group: RAM_START + 64,
+        end_thread: RAM_START + 64,
+    };
+    let mut programs = Vec::new(alloc);
+    programs.push(program)?;
+    PmpSpace::new(
+        alloc,
+        ram,
+        programs,
+        RAM_START + 64,
+        RAM_START + 128,
+        RAM_START + 160,
+        16,
+        2,
+    )
+}
+
+// The same, with the view of a group that has started.
+#[tactic(auto, unfolding(crate::specs::World::has_view), using(crate::proofs::Joins::started_has_view))]
+fn walled(alloc: Global) -> Result<PmpSpace, OutOfMemory>
+    ensures { IfOk result (λ space. IsEntered (⟦<PmpSpace as Space>⟧.world space)) }
+{
+    let mut space = walls(alloc)?;
+    match space.start(7, 0, 0, true) {
+        Ok(_) => {}
+        Err(_) => return Err(OutOfMemory),
+    }
+    space.enter(7);
+    Ok(space)
+}
+
+#[test]
+fn accesses_of_two_windows_ask_the_unit(rt: HostRuntime) -> Result<(), Fail> {
+    let mut space = walled(rt.alloc())?;
+    assert_eq!(rt; space.fetch(RAM_START + 64), Ok(0x73));
+    assert_eq!(rt; space.fetch(RAM_START + 128), Err(1));
+    assert_eq!(rt; space.load(RAM_START + 128, 4), Ok(0x04030201));
+    assert_eq!(rt; space.load(RAM_START + 60, 4), Err(5));
+    assert_eq!(rt; space.load(RAM_START + 192, 1), Err(5));
+    assert_eq!(rt; space.load(0, 4), Err(5));
+    assert_eq!(rt; space.unit().asked(), 6);
+    assert_eq!(rt; space.good(RAM_START + 120, 16, Access::Load), true);
+    assert_eq!(rt; space.good(RAM_START + 120, 16, Access::Store), false);
+    assert_eq!(rt; space.good(RAM_START + 128, 64, Access::Store), true);
+    assert_eq!(rt; space.good(RAM_START + 64, 65, Access::Fetch), false);
+    assert_eq!(rt; space.store(RAM_START + 64, 4, 0), Err(7));
+    let last = Question {
+        at: RAM_START + 64,
+        len: 4,
+        access: Access::Store,
+        mode: Mode::User,
+    };
+    assert_eq!(rt; space.unit().last(), Some(last));
     Ok(())
 }
