@@ -81,9 +81,10 @@ pub others_have_views : (w new : World) (number place slot other : ℕ) (fresh :
 others_have_views w new number place slot other fresh e h =
     let a = added w number place slot fresh in
     let groups = ap (λ x. x.groups) e ∙ outside_groups (started w number place slot fresh) new ∙ ap (λ x. x.groups) a.is in
-    let there = a.kept.views other ∙ h in
-    (ap (λ gs. has_view gs other) groups ∙ last_view a.before.groups a.group other ∙ true_or (has_view a.before.groups other) (a.group.number == other) there,
-    ap (λ gs. (group_of gs other).parts) groups ∙ ap (λ g. g.parts) (before_last a.before.groups a.group other there) ∙ a.kept.parts other)
+    let there = a.kept.views other ∙ h in (
+      ap (λ gs. has_view gs other) groups ∙ last_view a.before.groups a.group other ∙ true_or (has_view a.before.groups other) (a.group.number == other) there,
+      ap (λ gs. (group_of gs other).parts) groups ∙ ap (λ g. g.parts) (before_last a.before.groups a.group other there) ∙ a.kept.parts other,
+    )
   where
     true_or : (a b : Bool) → a ≡ true → (a || b) ≡ true
     true_or true b e = refl

@@ -5,18 +5,19 @@ use Rattle.std.proofs.lemmas.Bool.Decides.{nat_tests}
 use Rattle.nx_base.specs.declared.access.Access.{Access}
 use Rattle.nx_base.specs.declared.access.Access.TheVariants.{Fetch, Load, Store}
 use Rattle.nx_base.specs.declared.access.Mode.TheVariants.{User}
-use Rattle.nx_base.specs.Good.{is_good}
+use Rattle.nx_base.specs.Good.{allows as may, is_found, is_good}
+use Rattle.nx_base.specs.Views.{find_bytes}
 use Rattle.nx_ram.specs.Widths.{IsWidth}
 use Rattle.nx_pmp.specs.declared.pmp.Pmp.{Pmp}
 use Rattle.nx_pmp.specs.Protection.{allows}
-use Rattle.nx_space.specs.World.{Common, Part, IsEntered, bytes_of, view_in}
+use Rattle.nx_space.specs.World.{Home, Common, Part, IsEntered, group_in, bytes_of, seen_by, window_of, view_in}
 use Rattle.nx_space.specs.Places.{Place, lies_in, place_in}
 use Rattle.nx_space.specs.Shared.{ram_start, AreStraight, Sharing, IsSharing}
 use Rattle.nx_space.specs.Protected.{bound, text_part, data_part, protected_parts, protected_world, IsProtected, protected_shared, protected_lawful, low_of, top_of, is_protected_good}
 use Rattle.nx_space.proofs.Allowed.{allowed, both_ways}
 use Rattle.nx_space.proofs.Goods.{allows_part, serves_part, is_placed, all_placed, good_placed}
 use Rattle.nx_space.proofs.Stores.{lawful_laid}
-use Rattle.nx_space.proofs.Windows.{within, laid, place_fits}
+use Rattle.nx_space.proofs.Windows.{within, laid, place_fits, find_parts, bytes_at}
 use Rattle.nx_space.proofs.SharedAccesses.{spot, entered_parts}
 use Rattle.nx_space.proofs.SharedStarts.{straight_place}
 
@@ -185,3 +186,23 @@ pub good_stands : (pmp : Pmp) (s : Sharing) (at : ℕ) (a : Access) → IsSharin
 good_stands pmp s at a h p v g =
     let e : (nat_le (low_of pmp a) at && nat_le (at + 1) (top_of pmp a)) ≡ true = good_protected pmp s at 1 a h p v ∙ g in
     stands pmp s at 1 a h p (ap is_placed (sym (served pmp at 1 a)) ∙ byte_placed pmp s at a p ∙ e)
+
+may_is : (a : Access) (b : Home → List ℕ) (p : Part) → may a (window_of b p) ≡ allows_part a p
+may_is Fetch b p = refl
+may_is Load b p = refl
+may_is Store b p = refl
+
+found_placed : (b : Home → List ℕ) (o : Option Place) (n : ℕ) → is_placed o ≡ is_found (bytes_at b o n)
+found_placed b None n = refl
+found_placed b (Some pl) n = refl
+
+-- the entries allow what the entered view does
+pub allowed_found : (pmp : Pmp) (s : Sharing) (at n : ℕ) (access : Access) → IsSharing s → IsProtected pmp s → IsEntered (protected_world pmp s) → IsWidth n → at % n ≡ 0 → allows pmp at n access User ≡ is_found (find_bytes (may access) (view_in (protected_world pmp s)).windows at n)
+allowed_found pmp s at n access h p v w a =
+    let world = protected_world pmp s in
+    let b = seen_by world s.entered in
+    let shown = lawful_laid world s.entered (protected_lawful pmp s h p) v in
+    allowed_placed pmp s at n access p w a
+    ∙ ap (λ ps. is_placed (place_in (allows_part access) ps at n)) (sym (entered_parts (protected_parts pmp) (bound pmp 0 - ram_start) s v))
+    ∙ found_placed b (place_in (allows_part access) (group_in world).parts at n) n
+    ∙ ap is_found (sym (find_parts (allows_part access) (may access) b (group_in world).parts at n (may_is access b) shown))

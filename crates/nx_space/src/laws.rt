@@ -1,6 +1,13 @@
-ghost use Rattle.std.specs.Prelude.{◌≡◌, ◌≢◌, ℕ, ◌<◌, Bool, true, false, length};
+ghost use Rattle.std.specs.Prelude.{◌≡◌, ◌≢◌, ℕ, ◌%◌, ◌<◌, Bool, true, false, length};
 ghost use Rattle.nx_base.specs.declared.access.Access.{Access};
-ghost use Rattle.nx_base.specs.Good.{is_good};
+ghost use Rattle.nx_base.specs.declared.access.Mode.TheVariants as mode;
+ghost use Rattle.nx_base.specs.Good.{allows as may, is_found, is_good};
+ghost use Rattle.nx_base.specs.Views.{find_bytes};
+ghost use Rattle.nx_ram.specs.Widths.{IsWidth};
+ghost use Rattle.nx_pmp.specs.declared.pmp.Pmp.{Pmp};
+ghost use Rattle.nx_pmp.specs.Protection.{allows};
+ghost use Rattle.nx_space.specs.Shared.{Sharing, IsSharing};
+ghost use Rattle.nx_space.specs.Protected.{protected_world, IsProtected};
 ghost use Rattle.nx_space.specs.World.{World, Plan, Common, IsEntered, has_view, group_of, group_in, view_of, view_in, pool_of};
 ghost use Rattle.nx_space.specs.Lawful.{IsWorld, IsOutside, OnlyEntered, IsLeft};
 ghost use Rattle.nx_space.specs.Starts.{start_need, grow_need, free, started, grown, finished, but_outside};
@@ -56,4 +63,10 @@ pub fn the_pool_stays()
 pub fn a_group_sees_all_of_a_write_or_nothing()
     ensures shared { (w : World) (g h : ℕ) → IsWorld w → w.plan.is_paged ≡ false → has_view w.groups g ≡ true → has_view w.groups h ≡ true → view_of w g ≡ view_of w h }
     ensures paged { (v w : World) (h : ℕ) → IsWorld v → v.plan.is_paged ≡ true → OnlyEntered v w → has_view v.groups h ≡ true → h ≢ v.entered → view_of w h ≡ view_of v h }
+{}
+
+/// A law: the view of a protected space is what its entries allow in user mode: an aligned access is
+/// allowed exactly where a window of the entered view has its bytes and lets it be made.
+pub fn the_entries_allow_what_the_view_does()
+    ensures { (pmp : Pmp) (s : Sharing) (at n : ℕ) (access : Access) → IsSharing s → IsProtected pmp s → IsEntered (protected_world pmp s) → IsWidth n → at % n ≡ 0 → allows pmp at n access mode.User ≡ is_found (find_bytes (may access) (view_in (protected_world pmp s)).windows at n) }
 {}

@@ -37,8 +37,7 @@ fn is_good(pmp: &Pmp, at: u32, len: u32, access: Access) -> bool
         Access::Load => (pmp.entries[0].addr, pmp.entries[2].addr),
         Access::Store => (pmp.entries[1].addr, pmp.entries[2].addr),
     };
-    len == 0
-        || 4 * low as usize <= at as usize && at as usize + len as usize <= 4 * top as usize
+    len == 0 || 4 * low as usize <= at as usize && at as usize + len as usize <= 4 * top as usize
 }
 
 impl PmpSpace {

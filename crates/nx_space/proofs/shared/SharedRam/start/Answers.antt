@@ -22,9 +22,10 @@ invariant_of-self c =
     let new = ap (λ s. has_live s.live c.args.group) c.self.view_is ∙ c.requires.new in
     let inside = c.stack_low-low.ensures.inside in
     let zeros = length-replicate {A = ℕ} f.stack 0 in
-    let small = subst AreBytes (sym c.zero.ensures.bytes) (small_put c.set_data.new.ram (c.stack_low-low.result - ram_start) (replicate f.stack 0) (omega (arith, inside.0, inside.1, zeros, size, stack, h.whole, c.set_data.ensures.long)) (c.set_data.ensures.small h.bytes) (small_zeros f.stack)) in
-    (kept_start _ c.zero.new.self c.push.new.self.items (record { number = c.args.group; program = c.args.prog; slot = c.args.slot }) h (c.zero.ensures.long ∙ c.set_data.ensures.long) small lives new (omega (arith, c.requires.room, count, threads)) (omega (arith, c.requires.prog, programs)),
-    omega (arith, c.push.ensures.capacity, c.self.invariant.1))
+    let small = subst AreBytes (sym c.zero.ensures.bytes) (small_put c.set_data.new.ram (c.stack_low-low.result - ram_start) (replicate f.stack 0) (omega (arith, inside.0, inside.1, zeros, size, stack, h.whole, c.set_data.ensures.long)) (c.set_data.ensures.small h.bytes) (small_zeros f.stack)) in (
+      kept_start _ c.zero.new.self c.push.new.self.items (record { number = c.args.group; program = c.args.prog; slot = c.args.slot }) h (c.zero.ensures.long ∙ c.set_data.ensures.long) small lives new (omega (arith, c.requires.room, count, threads)) (omega (arith, c.requires.prog, programs)),
+      omega (arith, c.push.ensures.capacity, c.self.invariant.1),
+    )
 
 pub returns-clause-kept : goal.returns-clause-kept
 returns-clause-kept c = (invariant_of-self c).0
