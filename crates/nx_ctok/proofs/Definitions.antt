@@ -1,6 +1,6 @@
 -- A table of names against the map that holds it, and against the definitions that it stands for.
 use Rattle.std.proofs.Common.{◌≡◌, ℕ, Bool, true, false, true≢false, cond, if◌then◌else◌, List, [], ◌∷◌, refl, sym, ap, ◌∙◌}
-use Rattle.std.specs.Prelude.{Option, None, Some}
+use Rattle.std.specs.Prelude.{Option, Some}
 use Rattle.std.proofs.lemmas.Slice.Eq.{bytes_eq-Decides}
 use Rattle.std.specs.Global.{Vec}
 use Rattle.std.specs.Map.{lookup}
@@ -9,7 +9,7 @@ use Rattle.std.specs.Str.{bytes_eq}
 use Rattle.indexmap.specs.IndexMap.{insert_entry}
 use Rattle.nx_ctok.specs.declared.value.Value.{Value}
 use Rattle.nx_ctok.specs.declared.value.Definition.{Definition}
-use Rattle.nx_ctok.specs.Tokens.{Definitions, at_first, with_definition}
+use Rattle.nx_ctok.specs.Tokens.{at_first, with_definition}
 use Rattle.nx_ctok.specs.Views.{named, values_in}
 
 module _ {V : Type 0} where

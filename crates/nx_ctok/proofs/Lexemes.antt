@@ -1,11 +1,10 @@
 -- The token at the start of a text, as it is scanned, is the longest.
-use Rattle.std.proofs.Common.{◌≡◌, ℕ, zero, suc, ◌+◌, ◌<◌, ◌≤◌, ◌==◌, Bool, true, false, cond, ◌&&◌, ◌||◌, not, nat_lt, List, [], ◌∷◌, ◌++◌, length, take, drop, get_or, refl, sym, ap, ◌∙◌, arith, subst}
+use Rattle.std.proofs.Common.{◌≡◌, ℕ, zero, suc, ◌+◌, ◌<◌, ◌≤◌, ◌==◌, Bool, true, false, ◌&&◌, ◌||◌, not, nat_lt, List, [], ◌∷◌, length, take, drop, get_or, refl, sym, ap, ◌∙◌, arith, subst}
 use Rattle.std.proofs.lemmas.Bool.{eqb-true, ltb-true, ltb-false}
-use Rattle.std.specs.Char.{is_ascii_digit, is_ascii_hexdigit}
+use Rattle.std.specs.Char.{is_ascii_digit}
 use Rattle.std.specs.List.{list_all}
-use Rattle.std.specs.Option.{option_map}
 use Rattle.std.specs.Prelude.{Option, None, Some, is_some, if◌then◌else◌}
-use Rattle.nx_base.specs.TextBytes.{is_word_byte, is_word_start}
+use Rattle.nx_base.specs.TextBytes.{is_word_start}
 use Rattle.nx_ctok.specs.declared.token.TokenKind.{TokenKind}
 use Rattle.nx_ctok.specs.declared.token.TokenKind.TheVariants as kind
 use Rattle.nx_ctok.specs.declared.token.Word.{Word}
@@ -53,7 +52,7 @@ word_is : (bytes : List ℕ) (k : TokenKind) (n : ℕ) → IsLongest bytes k n �
 unfolding word_at longest
 word_is bytes k n x =
     let e : greatest (λ m. is_some (kind_of (take m bytes))) (length bytes) ≡ n =
-        greatest_is (λ m. is_some (kind_of (take m bytes))) (length bytes) n x.within (ap is_some x.is) (λ j l m. ap is_some (x.last j l m)) in
+    greatest_is (λ m. is_some (kind_of (take m bytes))) (length bytes) n x.within (ap is_some x.is) (λ j l m. ap is_some (x.last j l m)) in
     rw (e, x.is) refl
 
 -- Where no bytes spell a token, there is no word.
@@ -61,7 +60,7 @@ word_none : (bytes : List ℕ) → ((j : ℕ) → 0 < j → j ≤ length bytes �
 unfolding word_at longest
 word_none bytes f =
     let e : greatest (λ m. is_some (kind_of (take m bytes))) (length bytes) ≡ 0 =
-        greatest_none (λ m. is_some (kind_of (take m bytes))) (length bytes) (λ j l m. ap is_some (f j l m)) in
+    greatest_none (λ m. is_some (kind_of (take m bytes))) (length bytes) (λ j l m. ap is_some (f j l m)) in
     rw e refl
 
 -- A length with which a test passes, and with no greater one; or none passes.
@@ -163,10 +162,11 @@ fits_zero (b ∷ ds) = by (b == 120) refl (nat_lt 0 (run class.Hexadecimal ds)) 
         none n h = grind (arith, ltb-false 0 n h)
     by true e true h =
         let w : run class.Hexadecimal ds ≤ length ds = run_within class.Hexadecimal ds in
-        let p : 0 < run class.Hexadecimal ds = ltb-true 0 (run class.Hexadecimal ds) h in
-        (omega arith,
-         rw e (some_hex (take (run class.Hexadecimal ds) ds) (some (run class.Hexadecimal ds) ds p w) (run_all class.Hexadecimal ds)),
-         λ j. last j)
+        let p : 0 < run class.Hexadecimal ds = ltb-true 0 (run class.Hexadecimal ds) h in (
+          omega arith,
+          rw e (some_hex (take (run class.Hexadecimal ds) ds) (some (run class.Hexadecimal ds) ds p w) (run_all class.Hexadecimal ds)),
+          λ j. last j,
+        )
       where
         some : (n : ℕ) (xs : List ℕ) → 0 < n → n ≤ length xs → 0 < length (take n xs)
         some zero xs p m = absurd (omega arith)

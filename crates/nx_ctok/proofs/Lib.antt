@@ -1,5 +1,4 @@
 pub mod Lexemes
-
 pub mod Steps
 pub mod Texts
 pub mod Shortens

@@ -1,5 +1,5 @@
 -- The low part of a number is told by the low parts of what its digits make.
-use Rattle.std.proofs.Common.{◌≡◌, ℕ, suc, ◌+◌, ◌*◌, ◌/◌, ◌%◌, List, [], ◌∷◌, refl, sym, ap, ◌∙◌, add_assoc}
+use Rattle.std.proofs.Common.{◌≡◌, ℕ, ◌+◌, ◌*◌, ◌/◌, ◌%◌, List, [], ◌∷◌, sym, ap, ◌∙◌, add_assoc}
 use Rattle.std.proofs.Math.Nat.{div-add-mod, mul-add-mod_self_left, add-mul, mul_assoc}
 use Rattle.std.specs.Char.{digit_value}
 use Rattle.std.specs.Str.Parse.{digits_value, digits_value_after}
@@ -8,7 +8,7 @@ use Rattle.std.specs.Str.Parse.{digits_value, digits_value_after}
 low_digit : (n base d m : ℕ) → (n % m * base + d) % m ≡ (n * base + d) % m
 low_digit n base d m =
     let e : n * base + d ≡ m * (n / m * base) + (n % m * base + d) =
-        ap (λ k. k * base + d) (sym (div-add-mod n m)) ∙ ap (λ k. k + d) (add-mul (m * (n / m)) (n % m) base ∙ ap (λ k. k + n % m * base) (mul_assoc m (n / m) base)) ∙ add_assoc (m * (n / m * base)) (n % m * base) d in
+    ap (λ k. k * base + d) (sym (div-add-mod n m)) ∙ ap (λ k. k + d) (add-mul (m * (n / m)) (n % m) base ∙ ap (λ k. k + n % m * base) (mul_assoc m (n / m) base)) ∙ add_assoc (m * (n / m * base)) (n % m * base) d in
     sym (ap (λ k. k % m) e ∙ mul-add-mod_self_left m (n / m * base) (n % m * base + d))
 
 low_self : (n m : ℕ) → n % m % m ≡ n % m

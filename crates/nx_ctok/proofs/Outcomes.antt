@@ -1,5 +1,5 @@
 -- A text gives one outcome, and its tokens are spelled as their kinds are.
-use Rattle.std.proofs.Common.{◌≡◌, ℕ, ◌==◌, ◌&&◌, ◌||◌, Bool, true, false, List, [], ◌∷◌, ◌++◌, drop, refl, sym, ap, ◌∙◌, subst}
+use Rattle.std.proofs.Common.{◌≡◌, ℕ, ◌==◌, ◌&&◌, ◌||◌, Bool, true, false, List, [], ◌∷◌, ◌++◌, drop, refl, ap, ◌∙◌, subst}
 use Rattle.std.specs.Global.{Vec}
 use Rattle.std.specs.Prelude.{Option, None, Some, Result, Ok, Err, codes, nat_eq, nat_lt, if◌then◌else◌}
 use Rattle.std.specs.List.{starts_with}
@@ -20,10 +20,10 @@ use Rattle.nx_ctok.specs.declared.value.Definition.{Definition}
 use Rattle.nx_ctok.specs.Spellings.{kind_of, is_single_mark}
 use Rattle.nx_ctok.specs.Longest.{word_at}
 use Rattle.nx_ctok.specs.Comments.{newlines, line_at, Comment, Absent, Open, Closed, comment_at, gap, after_blanks, all_steps, behind_ignored, ends_line}
-use Rattle.nx_ctok.specs.Directives.{is_too_wide, Found, then_, name_of, name_at, constant_of, constant_at, value_at, ended, definition_at, Front, Space, Spelled, Define, Wrong, defined, dropped, directive}
+use Rattle.nx_ctok.specs.Directives.{is_too_wide, Found, then_, name_at, constant_of, constant_at, value_at, ended, definition_at, Front, Space, Spelled, Define, Wrong, defined, dropped, directive}
 use Rattle.nx_ctok.specs.Predefined.{number_text, predefined_of}
-use Rattle.nx_ctok.specs.Tokens.{checked, is_hash, uncommented, commented, front_at, Definitions, predefined, at_first, with_definition, minus_tokens, value_tokens, replaced, meaning, ahead, Gives, End, Refused, Skipped, Taken, Defined, Reads, IsSpelled, AreEnded, Last, Next}
-use Rattle.nx_ctok.specs.Answers.{Faults, IsAnswer, IsFault, IsGiven}
+use Rattle.nx_ctok.specs.Tokens.{checked, is_hash, uncommented, commented, front_at, Definitions, predefined, at_first, with_definition, minus_tokens, replaced, meaning, ahead, Gives, End, Refused, Skipped, Taken, Defined, Reads, IsSpelled, AreEnded, Last, Next}
+use Rattle.nx_ctok.specs.Answers.{IsAnswer, IsGiven}
 use Rattle.nx_ctok.proofs.Words.{word_is_spelled}
 
 -- Two things at one place are one.

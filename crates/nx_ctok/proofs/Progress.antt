@@ -1,5 +1,5 @@
 -- How a text is read from place to place.
-use Rattle.std.proofs.Common.{◌≡◌, ℕ, suc, ◌+◌, ◌-◌, ◌<◌, ◌≤◌, ◌||◌, ◌==◌, if◌then◌else◌, nat_lt, Bool, true, false, List, [], ◌∷◌, ◌++◌, length, refl, sym, ap, ◌∙◌, arith, subst, append_assoc, append-nil, le-ltb}
+use Rattle.std.proofs.Common.{◌≡◌, ℕ, suc, ◌+◌, ◌<◌, ◌≤◌, ◌||◌, ◌==◌, if◌then◌else◌, nat_lt, Bool, true, false, List, [], ◌∷◌, ◌++◌, length, refl, sym, ap, ◌∙◌, arith, subst, append_assoc, append-nil, le-ltb}
 use Rattle.std.proofs.lemmas.Bool.{lt-ltb, ltb-true, ltb-false}
 use Rattle.std.specs.Prelude.{Result, Ok, Err}
 use Rattle.nx_ctok.specs.declared.fault.CKind.{CKind}
@@ -12,7 +12,7 @@ use Rattle.nx_ctok.specs.declared.value.Definition.{Definition}
 use Rattle.nx_ctok.specs.declared.reader.Reader.{Reader}
 use Rattle.nx_ctok.specs.Comments.{newlines, line_at}
 use Rattle.nx_ctok.specs.Directives.{Space, Spelled, Define, Wrong}
-use Rattle.nx_ctok.specs.Tokens.{Definitions, at_first, with_definition, meaning, replaced, ahead, front_at, Gives, End, Refused, Skipped, Taken, Defined, Reads}
+use Rattle.nx_ctok.specs.Tokens.{Definitions, with_definition, meaning, replaced, ahead, front_at, Gives, End, Refused, Skipped, Taken, Defined, Reads}
 use Rattle.nx_ctok.specs.Views.{IsLeft, values_in}
 use Rattle.nx_ctok.specs.Reading.{GivesFrom, Follows, Reached}
 use Rattle.nx_ctok.proofs.Definitions.{values_none}
@@ -56,7 +56,7 @@ follow_space old new rest behind n e left is = subst (λ r. Follows old rest r b
   less = left.less;
   gives = λ text l out x. subst (λ o. Gives text old.fresh (values_in old.table) rest o) (ahead_none out)
       (Skipped old.fresh (values_in old.table) rest behind out e
-          (subst (λ t. Gives text (old.fresh || t) (values_in old.table) behind out) (passed n (newlines behind) (newlines rest) left.lines) x));
+      (subst (λ t. Gives text (old.fresh || t) (values_in old.table) behind out) (passed n (newlines behind) (newlines rest) left.lines) x));
 })
 
 pub follow_word : (old new : Reader) (rest : List ℕ) (w : Word) → front_at old.fresh rest ≡ Spelled w → IsLeft w.rest 0 rest →
@@ -70,7 +70,7 @@ follow_word old new rest w e left f t l n = record {
   less = left.less;
   gives = λ text h out x. subst (λ m. Gives text old.fresh (values_in old.table) rest (ahead (replaced m w.kind w.text (meaning (values_in old.table) w.kind w.text)) out)) (sym h)
       (Taken old.fresh (values_in old.table) rest w out e
-          (subst (λ t. Gives text false (values_in t) w.rest out) t (subst (λ q. Gives text q (values_in new.table) w.rest out) n x)));
+      (subst (λ t. Gives text false (values_in t) w.rest out) t (subst (λ q. Gives text q (values_in new.table) w.rest out) n x)));
 }
 
 pub follow_definition : (old new : Reader) (rest behind : List ℕ) (d : Definition) → front_at old.fresh rest ≡ Define d behind → IsLeft behind 0 rest →
@@ -83,7 +83,7 @@ follow_definition old new rest behind d e left f t l n = record {
   less = left.less;
   gives = λ text h out x. subst (λ o. Gives text old.fresh (values_in old.table) rest o) (ahead_none out)
       (Defined old.fresh (values_in old.table) rest behind d out e
-          (subst (λ v. Gives text false v behind out) t (subst (λ q. Gives text q (values_in new.table) behind out) n x)));
+      (subst (λ v. Gives text false v behind out) t (subst (λ q. Gives text q (values_in new.table) behind out) n x)));
 }
 
 -- A place's line, by the newlines behind it.
@@ -112,9 +112,9 @@ pub reached_end : (text : List ℕ) (r : Reader) (rest : List ℕ) → rest ≡ 
 reached_end text r rest e x =
     let l : r.line ≡ line_at text rest = line_there text rest r.line x.first x.line in
     let at : (bs : List ℕ) → bs ≡ [] → GivesFrom text r bs (Ok (record { kind = kind.End; text = bs; line = line_at text bs } ∷ [])) =
-        λ bs q. subst (λ y. GivesFrom text r y (Ok (record { kind = kind.End; text = y; line = line_at text y } ∷ []))) (sym q) (End r.fresh (values_in r.table)) in
+    λ bs q. subst (λ y. GivesFrom text r y (Ok (record { kind = kind.End; text = y; line = line_at text y } ∷ []))) (sym q) (End r.fresh (values_in r.table)) in
     x.gives (Ok (record { kind = kind.End; text = rest; line = r.line } ∷ []))
-        (subst (λ n. GivesFrom text r rest (Ok (record { kind = kind.End; text = rest; line = n } ∷ []))) (sym l) (at rest e))
+    (subst (λ n. GivesFrom text r rest (Ok (record { kind = kind.End; text = rest; line = n } ∷ []))) (sym l) (at rest e))
 
 -- Where the rest is refused, the text is.
 pub reached_fault : (text : List ℕ) (r : Reader) (rest : List ℕ) (line : ℕ) (k : CKind) → Reached text r rest →

@@ -1,5 +1,5 @@
 -- Where a text is closed.
-use Rattle.std.proofs.Common.{◌≡◌, true, false, List, [], ◌∷◌, ℕ, refl}
+use Rattle.std.proofs.Common.{◌≡◌, true, List, [], ◌∷◌, ℕ, refl}
 use Rattle.std.specs.Prelude.{Some}
 use Rattle.nx_ctok.specs.Scanning.{starts_with_quote, text_length}
 

@@ -1,5 +1,5 @@
 -- What a word at the start of a text is: spelled as its kind is, without a newline, and not empty.
-use Rattle.std.proofs.Common.{◌≡◌, ℕ, zero, suc, ◌+◌, ◌<◌, ◌≤◌, ◌==◌, ◌&&◌, ◌||◌, Bool, true, false, cond, List, [], ◌∷◌, ◌++◌, length, take, drop, refl, sym, ap, ◌∙◌, arith, subst, length-drop, zero-add}
+use Rattle.std.proofs.Common.{◌≡◌, ℕ, zero, suc, ◌<◌, ◌==◌, ◌&&◌, ◌||◌, Bool, true, false, List, [], ◌∷◌, length, take, drop, refl, sym, ◌∙◌, arith, subst, length-drop, zero-add}
 use Rattle.std.proofs.lemmas.Bool.{eqb-true}
 use Rattle.std.proofs.lemmas.Slice.Eq.{bytes_eq-Decides}
 use Rattle.std.specs.Char.{is_ascii_digit, is_ascii_hexdigit}
@@ -62,7 +62,7 @@ char_pass (b ∷ c ∷ d ∷ []) e =
     let p = both (b == 92) (is_some (escaped c) && d == 39) e in
     let q = both (is_some (escaped c)) (d == 39) p.1 in
     before b (c ∷ d ∷ []) (no_newline (λ x. x == 92) refl b p.0)
-        (before c (d ∷ []) (no_newline (λ x. is_some (escaped x)) refl c q.0) (before d [] (no_newline (λ x. x == 39) refl d q.1) refl))
+    (before c (d ∷ []) (no_newline (λ x. is_some (escaped x)) refl c q.0) (before d [] (no_newline (λ x. x == 39) refl d q.1) refl))
 char_pass (b ∷ c ∷ d ∷ x ∷ bs) e = cc
 
 text_pass : (bs : List ℕ) → is_text_rest bs ≡ true → newlines bs ≡ 0

@@ -1,6 +1,5 @@
 -- Blanks, comments and lines.
 use Rattle.std.specs.Prelude.{ℕ, zero, suc, ◌+◌, ◌-◌, ◌==◌, Bool, true, false, ◌&&◌, ◌||◌, List, [], ◌∷◌, length, Option, None, Some, if◌then◌else◌}
-use Rattle.std.specs.List.{list_all}
 use Rattle.std.specs.Option.{option_map}
 use Rattle.nx_base.specs.TextBytes.{is_line_blank}
 use Rattle.nx_ctok.specs.Spellings.{is_source_byte}

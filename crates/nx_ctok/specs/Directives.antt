@@ -1,5 +1,5 @@
 -- The lines that begin with "#": each is an `#include` line, which is dropped, or a `#define` line (C11 6.10).
-use Rattle.std.specs.Prelude.{ℕ, ◌<◌, ◌==◌, ◌^◌, Bool, true, false, ◌&&◌, nat_eq, nat_le, List, [], ◌∷◌, codes, drop, Option, None, Some, if◌then◌else◌}
+use Rattle.std.specs.Prelude.{ℕ, ◌==◌, ◌^◌, Bool, true, false, nat_eq, nat_le, List, [], ◌∷◌, codes, drop, Option, None, Some, if◌then◌else◌}
 use Rattle.std.specs.List.{starts_with}
 use Rattle.nx_ctok.specs.declared.fault.CKind.{CKind}
 use Rattle.nx_ctok.specs.declared.fault.CKind.TheVariants.{BadToken, TooWide}

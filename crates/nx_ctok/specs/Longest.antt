@@ -1,7 +1,6 @@
 -- The longest match (C11 6.4, paragraph 4): the next token is the longest sequence of bytes that spells one.
-use Rattle.std.specs.Prelude.{◌≡◌, ℕ, zero, suc, ◌<◌, ◌≤◌, Bool, List, length, take, drop, Option, None, Some, is_some, if◌then◌else◌}
+use Rattle.std.specs.Prelude.{ℕ, zero, suc, Bool, List, length, take, drop, Option, is_some, if◌then◌else◌}
 use Rattle.std.specs.Option.{option_map}
-use Rattle.nx_ctok.specs.declared.token.TokenKind.{TokenKind}
 use Rattle.nx_ctok.specs.declared.token.Word.{Word}
 use Rattle.nx_ctok.specs.Spellings.{kind_of}
 

@@ -1,7 +1,6 @@
 -- The names that every C program begins with, as if by `#define` at its head.
 use Rattle.std.specs.Prelude.{ℕ, List, [], ◌∷◌, codes, Option}
 use Rattle.std.specs.List.{find}
-use Rattle.std.specs.Option.{option_map}
 use Rattle.std.specs.Str.{bytes_eq}
 use Rattle.nx_ctok.specs.declared.predefined.Predefined.{Predefined}
 use Rattle.nx_ctok.specs.declared.predefined.Predefined.TheVariants as name

@@ -1,7 +1,6 @@
 -- How many bytes the token at the start of a text has, by its first bytes.
 use Rattle.std.specs.Prelude.{ℕ, suc, ◌+◌, ◌==◌, Bool, false, ◌&&◌, nat_lt, List, [], ◌∷◌, take, Option, None, Some, is_some, if◌then◌else◌}
 use Rattle.std.specs.Char.{is_ascii_digit, is_ascii_hexdigit}
-use Rattle.std.specs.Option.{option_map}
 use Rattle.nx_base.specs.TextBytes.{is_word_byte, is_word_start}
 use Rattle.nx_ctok.specs.declared.token.TokenKind.{TokenKind}
 use Rattle.nx_ctok.specs.declared.token.TokenKind.TheVariants as kind

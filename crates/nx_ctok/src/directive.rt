@@ -4,13 +4,13 @@ ghost use Rattle.nx_ctok.specs.Comments.{newlines, ends_line as ends_a_line};
 ghost use Rattle.nx_ctok.specs.Directives.{is_too_wide as is_wide, name_at, constant_at, value_at, ended as ended_at, definition_at, defined as defined_by, dropped as dropped_at, directive as directive_at};
 ghost use Rattle.nx_ctok.specs.Views.{IsLeft, front_seen, FrontLeft};
 
+use crate::CKind;
 use crate::comment::{after_blanks, after_ignored, ends_line, gap};
 use crate::front::Front;
 use crate::number::is_too_wide;
 use crate::token::{Spelling, TokenKind};
 use crate::value::{Definition, Value};
 use crate::word::word;
-use crate::CKind;
 
 /// A name, and what stands behind it.
 #[tactic(auto, unfolding(crate::specs::Directives::name_at))]
@@ -66,7 +66,11 @@ fn value(bytes: &[u8]) -> Option<(Value<'_>, &[u8])>
 }
 
 /// A definition, where the line ends behind it.
-fn ended<'a>(name: Spelling<'a>, value: Value<'a>, rest: &'a [u8]) -> Option<(Definition<'a>, &'a [u8])>
+fn ended<'a>(
+    name: Spelling<'a>,
+    value: Value<'a>,
+    rest: &'a [u8],
+) -> Option<(Definition<'a>, &'a [u8])>
     ensures gives { option_map (λ x. (x.0, x.1.now)) result ≡ ended_at name.entry value.entry rest.now }
     ensures same { IfSome result (λ x. x.1.now ≡ rest.now) }
 {

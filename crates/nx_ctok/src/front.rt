@@ -3,13 +3,13 @@ ghost use Rattle.nx_ctok.specs.Tokens.{checked as checked_of, is_hash as is_a_ha
 ghost use Rattle.nx_ctok.specs.Longest.{word_at};
 ghost use Rattle.nx_ctok.specs.Views.{front_seen, FrontLeft};
 
+use crate::CKind;
 use crate::comment::{Comment, comment_at};
 use crate::directive::directive;
 use crate::number::is_too_wide;
-use crate::word::word;
-use crate::CKind;
 use crate::token::{Spelling, Word};
 use crate::value::Definition;
+use crate::word::word;
 use nx_base::is_line_blank;
 
 /// What stands at the start of a text.

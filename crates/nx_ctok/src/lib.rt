@@ -22,9 +22,7 @@ mod word;
 
 pub use fault::{CFault, CKind};
 pub use keyword::Keyword;
-pub use laws::{
-    a_place_without_a_token_has_none, a_token_has_no_newline, a_token_is_the_longest,
-};
+pub use laws::{a_place_without_a_token_has_none, a_token_has_no_newline, a_token_is_the_longest};
 pub use predefined::Predefined;
 pub use token::{Spelling, Token, TokenKind};
 pub use tokenize::tokens;

@@ -40,8 +40,10 @@ pub(crate) fn is_double_mark(first: u8, second: u8) -> bool
 {
     matches!(
         (first, second),
-        (b'+' | b'-' | b'*' | b'/' | b'%' | b'=' | b'!' | b'<' | b'>', b'=')
-            | (b'|', b'|')
+        (
+            b'+' | b'-' | b'*' | b'/' | b'%' | b'=' | b'!' | b'<' | b'>',
+            b'='
+        ) | (b'|', b'|')
             | (b'&', b'&')
             | (b'<', b'<')
             | (b'>', b'>')

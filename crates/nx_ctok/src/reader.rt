@@ -40,11 +40,7 @@ fn push_minus(found: &mut Vec<Token<'_>>, line: u32, minus: bool) -> Result<(), 
 }
 
 /// The tokens of a value.
-fn push_value<'a>(
-    found: &mut Vec<Token<'a>>,
-    line: u32,
-    value: Value<'a>,
-) -> Result<(), AllocError>
+fn push_value<'a>(found: &mut Vec<Token<'a>>, line: u32, value: Value<'a>) -> Result<(), AllocError>
     ensures { OnOk result (found.new.items ≡ found.old.items ++ value_tokens line value.entry) }
 {
     push_minus(found, line, value.minus)?;

@@ -71,7 +71,10 @@ fn spellings(rt: HostRuntime) {
         ("0x1Fg", "#0x1F@1 ng@1 .@1 "),
         ("4294967295 0xFFFFFFFF", "#4294967295@1 #0xFFFFFFFF@1 .@1 "),
         ("a+++b", "na@1 m++@1 m+@1 nb@1 .@1 "),
-        ("<<= >>= &= <= =", "m<<@1 m=@1 m>>@1 m=@1 m&@1 m=@1 m<=@1 m=@1 .@1 "),
+        (
+            "<<= >>= &= <= =",
+            "m<<@1 m=@1 m>>@1 m=@1 m&@1 m=@1 m<=@1 m=@1 .@1 ",
+        ),
         ("'a' '\\'' '\\0'", "c'a'@1 c'\\''@1 c'\\0'@1 .@1 "),
         ("'\t' \"a\tb\\\"//\"", "c'\t'@1 t\"a\tb\\\"//\"@1 .@1 "),
     ] {
@@ -140,7 +143,10 @@ fn bad_tokens(rt: HostRuntime) {
         ("#include <a/*b>\n\n", 1),
         ("@ 4294967296", 1),
     ] {
-        let want = Some(CFault::Text { line, kind: CKind::BadToken });
+        let want = Some(CFault::Text {
+            line,
+            kind: CKind::BadToken,
+        });
         assert_eq!(rt; fault_of(rt.alloc(), text.as_bytes()), want, "{text}");
     }
 }
@@ -153,14 +159,20 @@ fn wide_numbers(rt: HostRuntime) {
         ("#define X 4294967296", 1),
         ("99999999999999999999999 @", 1),
     ] {
-        let want = Some(CFault::Text { line, kind: CKind::TooWide });
+        let want = Some(CFault::Text {
+            line,
+            kind: CKind::TooWide,
+        });
         assert_eq!(rt; fault_of(rt.alloc(), text.as_bytes()), want, "{text}");
     }
 }
 
 #[test]
 fn bytes_outside_ascii(rt: HostRuntime) {
-    let bad = Some(CFault::Text { line: 1, kind: CKind::BadToken });
+    let bad = Some(CFault::Text {
+        line: 1,
+        kind: CKind::BadToken,
+    });
     assert_eq!(rt; fault_of(rt.alloc(), b"/* \xff */ a // \x80\x0c"), None);
     assert_eq!(rt; fault_of(rt.alloc(), b"#include \xff"), bad);
     assert_eq!(rt; fault_of(rt.alloc(), b"\"\xff\""), bad);

@@ -12,11 +12,7 @@ use crate::token::{Spelling, Token, TokenKind};
 use std::alloc::{AllocError, Global};
 
 /// The end behind the other tokens.
-fn push_end<'a>(
-    found: &mut Vec<Token<'a>>,
-    line: u32,
-    rest: &'a [u8],
-) -> Result<(), AllocError>
+fn push_end<'a>(found: &mut Vec<Token<'a>>, line: u32, rest: &'a [u8]) -> Result<(), AllocError>
     ensures { OnOk result (found.new.items ≡ found.old.items ++ record { kind = End; text = rest.now; line = line } ∷ []) }
 {
     found.push(Token {

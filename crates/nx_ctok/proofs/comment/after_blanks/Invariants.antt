@@ -1,5 +1,5 @@
 use Rattle.std.proofs.Common.{◌≡◌, ◌≤◌, length}
-use Rattle.nx_ctok.specs.Comments.{newlines, all_steps, behind_blank, behind_ignored}
+use Rattle.nx_ctok.specs.Comments.{newlines, all_steps, behind_blank}
 use Rattle.nx_ctok.proofs.comment.after_blanks.Given as goal
 
 abbrev pub invariant-loop-behind : goal.invariant-loop-behind

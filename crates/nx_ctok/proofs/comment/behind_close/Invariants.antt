@@ -1,5 +1,5 @@
 use Rattle.std.proofs.Common.{◌≡◌, ◌+◌, ◌≤◌, length}
-use Rattle.nx_ctok.specs.Comments.{newlines, behind_close, from_newline}
+use Rattle.nx_ctok.specs.Comments.{newlines, behind_close}
 use Rattle.nx_ctok.proofs.comment.behind_close.Given as goal
 
 abbrev pub invariant-loop-rest : goal.invariant-loop-rest

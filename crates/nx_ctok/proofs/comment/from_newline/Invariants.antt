@@ -1,5 +1,5 @@
-use Rattle.std.proofs.Common.{◌≡◌, ◌+◌, ◌≤◌, length}
-use Rattle.nx_ctok.specs.Comments.{newlines, behind_close, from_newline}
+use Rattle.std.proofs.Common.{◌≡◌, ◌≤◌, length}
+use Rattle.nx_ctok.specs.Comments.{newlines, from_newline}
 use Rattle.nx_ctok.proofs.comment.from_newline.Given as goal
 
 abbrev pub invariant-loop-rest : goal.invariant-loop-rest

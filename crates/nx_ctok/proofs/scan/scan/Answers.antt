@@ -1,4 +1,4 @@
-use Rattle.std.proofs.Common.{◌≡◌, ◌∙◌, arith, rules}
+use Rattle.std.proofs.Common.{◌∙◌, arith}
 use Rattle.std.proofs.lemmas.Grind.{common_steps}
 use Rattle.nx_ctok.proofs.Lexemes.{scan_word}
 use Rattle.nx_ctok.proofs.scan.scan.Goals as goal

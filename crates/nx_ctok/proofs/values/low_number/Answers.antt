@@ -1,6 +1,5 @@
-use Rattle.std.proofs.Common.{◌≡◌, ◌+◌, ◌*◌, ◌^◌, ◌%◌, ap, ◌∙◌, drop, get_or, suc, drop-cons, arith, rules, add-one}
+use Rattle.std.proofs.Common.{◌≡◌, ◌^◌, drop, get_or, suc, drop-cons, arith, rules, add-one}
 use Rattle.std.specs.Char.{digit_value}
-use Rattle.std.specs.Str.Parse.{digits_value_after}
 use Rattle.nx_ctok.proofs.Numbers.{low_more}
 use Rattle.nx_ctok.proofs.values.low_number.Goals as goal
 

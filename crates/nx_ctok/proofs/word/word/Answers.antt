@@ -1,7 +1,5 @@
-use Rattle.std.proofs.Common.{◌≡◌, ◌∙◌, refl, sym, ap, take, drop, arith}
-use Rattle.std.specs.Prelude.{Some}
+use Rattle.std.proofs.Common.{◌≡◌, ◌∙◌, refl, sym, ap, drop, arith}
 use Rattle.std.proofs.lemmas.Grind.{common_steps}
-use Rattle.nx_ctok.specs.Longest.{word_at}
 use Rattle.nx_ctok.proofs.Lexemes.{word_of, word_scanned}
 use Rattle.nx_ctok.proofs.Words.{word_left}
 use Rattle.nx_ctok.proofs.word.word.Goals as goal
@@ -18,4 +16,4 @@ pub returns-in-Some-clause-left : goal.returns-in-Some-clause-left
 returns-in-Some-clause-left c =
     let r : c.new-in-Some.result ≡ drop c.in-Some.count c.args.bytes.now = grind (arith, common_steps) in
     word_left c.args.bytes.now (record { kind = c.in-Some.kind; text = c.new.result; rest = c.new-in-Some.result })
-        (word_scanned c.args.bytes.now ∙ ap (word_of c.args.bytes.now) (sym c.in-Some.ensures.gives) ∙ rw (c.new.ensures, r) refl)
+    (word_scanned c.args.bytes.now ∙ ap (word_of c.args.bytes.now) (sym c.in-Some.ensures.gives) ∙ rw (c.new.ensures, r) refl)
