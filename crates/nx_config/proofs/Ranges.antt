@@ -66,12 +66,12 @@ limits_in_range last l e =
     let console = none_earlier (limit_by console_row last) _ nodes.1 in
     let stack = none_earlier (limit_by stack_row last) _ console.1 in
     subst (λ (k : Limits). AreInRange k) n.1 (
-      record {
-        ram = in_row ram_row last (record { low = omega arith; high = omega arith; whole = refl }) ram.0;
-        threads = in_row threads_row last (record { low = omega arith; high = omega arith; whole = refl }) threads.0;
-        blocks = in_row blocks_row last (record { low = omega arith; high = omega arith; whole = refl }) blocks.0;
-        nodes = in_row nodes_row last (record { low = omega arith; high = omega arith; whole = refl }) nodes.0;
-        console = in_row console_row last (record { low = omega arith; high = omega arith; whole = refl }) console.0;
-        stack = in_row stack_row last (record { low = omega arith; high = omega arith; whole = refl }) stack.0;
-      }
+    record {
+      ram = in_row ram_row last (record { low = omega arith; high = omega arith; whole = refl }) ram.0;
+      threads = in_row threads_row last (record { low = omega arith; high = omega arith; whole = refl }) threads.0;
+      blocks = in_row blocks_row last (record { low = omega arith; high = omega arith; whole = refl }) blocks.0;
+      nodes = in_row nodes_row last (record { low = omega arith; high = omega arith; whole = refl }) nodes.0;
+      console = in_row console_row last (record { low = omega arith; high = omega arith; whole = refl }) console.0;
+      stack = in_row stack_row last (record { low = omega arith; high = omega arith; whole = refl }) stack.0;
+    }
     )

@@ -1,7 +1,7 @@
-use nx_base::OutOfMemory;
 ghost use Rattle.std.specs.Prelude.{◌≡◌, IfOk, length};
 
 use super::*;
+use nx_base::OutOfMemory;
 use nx_ram::Ram;
 use std::alloc::Global;
 use std::test::Fail;

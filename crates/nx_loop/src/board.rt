@@ -2,7 +2,7 @@ ghost use Rattle.std.specs.Prelude.{◌≡◌, [], length, IfOk};
 ghost use Rattle.nx_space.specs.World.{IsEntered};
 
 use crate::turns::{TURN_WORDS, turn_words};
-use nx_base::{OutOfMemory, Bytes, Regs, Text};
+use nx_base::{Bytes, OutOfMemory, Regs, Text};
 use nx_ram::{ProgImage, Ram};
 use nx_space::{FlatSpace, RAM_START, Space};
 use std::alloc::Global;

@@ -1,7 +1,7 @@
 ghost use Rattle.std.specs.Prelude.{true};
 
 use super::*;
-use nx_base::{OutOfMemory, Bytes, Count, Text};
+use nx_base::{Bytes, Count, OutOfMemory, Text};
 use nx_ram::{ProgImage, Ram};
 use nx_space::{FlatSpace, RAM_START, Space};
 use std::alloc::Global;

@@ -4,7 +4,6 @@ use nx_base::OutOfMemory;
 //! prints `yes` or `no`; `memory BYTES` makes a RAM of zeros, `word PLACE VALUE` stores a word in it,
 //! `walk SATP AT ACCESS` prints the physical address or `fault`.
 #![tactic(auto)]
-
 mod answers;
 mod request;
 

@@ -1,5 +1,5 @@
 use super::*;
-use nx_base::{OutOfMemory, Access};
+use nx_base::{Access, OutOfMemory};
 use nx_ram::Ram;
 use std::alloc::Global;
 use std::test::Fail;
