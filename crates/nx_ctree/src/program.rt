@@ -1,0 +1,97 @@
+use crate::shared::Shared;
+use crate::statement::{Decl, Stmt};
+use nx_base::Bytes;
+use sqlite_items::Items;
+
+/// A type word of a file's declarations.
+#[derive(Clone, Copy, Debug, PartialEq, Eq)]
+pub enum TypeWord {
+    Int,
+    Char,
+    Void,
+}
+
+/// The type of a local, of a parameter, or in a cast, without its `*`.
+#[derive(Clone, Copy, Debug, PartialEq, Eq)]
+pub enum Base {
+    Int,
+    Char,
+    ConstChar,
+}
+
+/// A constant, with the line of its first token.
+#[derive(Debug, Drop)]
+pub struct Constant {
+    pub line: u32,
+    pub kind: ConstantKind,
+}
+
+#[derive(Debug, Drop)]
+pub enum ConstantKind {
+    Number(u32),
+    /// A number behind a minus sign.
+    Minus(u32),
+    Char(u8),
+}
+
+/// A parameter, with the line of its first word.
+#[derive(Debug, Drop)]
+pub struct Param {
+    pub line: u32,
+    pub base: Base,
+    pub pointer: bool,
+    pub name: Bytes,
+}
+
+/// What stands between a function's parentheses.
+#[derive(Debug, Drop)]
+pub enum Params {
+    /// Nothing.
+    Empty,
+    /// `void`
+    Void,
+    Listed(Items<Param>),
+}
+
+/// The first contents of an array.
+#[derive(Debug, Drop)]
+pub enum Initialiser {
+    /// A text, without its zero byte.
+    Text(Bytes),
+    Listed(Items<Constant>),
+}
+
+/// A function's body.
+#[derive(Debug, Drop)]
+pub struct Function {
+    pub decls: Items<Decl>,
+    pub body: Shared<Items<Stmt>>,
+}
+
+/// What stands behind a name at file level.
+#[derive(Debug, Drop)]
+pub enum Rest {
+    /// A scalar without a value.
+    Plain,
+    Valued(Constant),
+    Array(Constant, Option<Initialiser>),
+    Prototype(Params),
+    Function(Params, Function),
+}
+
+/// A declaration or definition at file level, with the line of its first word.
+#[derive(Debug, Drop)]
+pub struct External {
+    pub line: u32,
+    /// Whether it begins with `static`.
+    pub internal: bool,
+    pub result: TypeWord,
+    pub name: Bytes,
+    pub rest: Rest,
+}
+
+/// A file (C11 section 6.9).
+#[derive(Debug, Drop)]
+pub struct Unit {
+    pub externals: Items<External>,
+}
