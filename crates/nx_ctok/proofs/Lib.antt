@@ -1,3 +1,4 @@
+pub mod Fits
 pub mod Lexemes
 pub mod Steps
 pub mod Texts

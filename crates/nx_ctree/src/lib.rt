@@ -1,8 +1,9 @@
 //! The trees of C programs: one type for each rule of the grammar, one variant for each alternative.
-//! Which tokens have which tree stands in `specs/Grammar.antt`, split into its three parts.
+//! Which tokens have which tree stands in `specs/Expressions.antt`, `Statements.antt` and `Programs.antt`.
 #![tactic(auto)]
 
 mod expression;
+mod laws;
 mod program;
 mod shared;
 mod sign;
@@ -11,6 +12,7 @@ mod statement;
 pub use expression::{
     AssignOperator, BinaryOperator, Expr, ExprKind, Place, PlaceKind, StepOperator, UnaryOperator,
 };
+pub use laws::a_token_has_its_sign;
 pub use program::{
     Base, Constant, ConstantKind, External, Function, Initialiser, Param, Params, Rest, TypeWord,
     Unit,
