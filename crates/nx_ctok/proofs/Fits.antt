@@ -53,14 +53,14 @@ no_hex : (w : List ℕ) → list_all (is_in class.Hexadecimal) w ≡ false → a
 no_hex [] e = cc
 no_hex (d ∷ ds) e = e
 
--- What stands behind a first digit 0.
+-- What stands after a first digit 0.
 pub fits_zero : (bs : List ℕ) → Fits is_zero_rest bs (Some (zero_length bs))
 fits_zero [] = (omega arith, refl, λ j l m. absurd (omega arith))
 fits_zero (b ∷ ds) = by (b == 120) refl (nat_lt 0 (run class.Hexadecimal ds)) refl
   where
-    behind : (j : ℕ) (t : Bool) → (b == 120) ≡ t → (t ≡ true → are_hex_digits (take j ds) ≡ false) → is_zero_rest (take (suc j) (b ∷ ds)) ≡ false
-    behind j true e f = rw (e, f refl) refl
-    behind j false e f = rw e refl
+    after : (j : ℕ) (t : Bool) → (b == 120) ≡ t → (t ≡ true → are_hex_digits (take j ds) ≡ false) → is_zero_rest (take (suc j) (b ∷ ds)) ≡ false
+    after j true e f = rw (e, f refl) refl
+    after j false e f = rw e refl
 
     nothing : ((j : ℕ) → j ≤ length ds → is_zero_rest (take (suc j) (b ∷ ds)) ≡ false) → Fits is_zero_rest (b ∷ ds) (Some 0)
     nothing f = (omega arith, refl, λ j. last j)
@@ -74,8 +74,8 @@ fits_zero (b ∷ ds) = by (b == 120) refl (nat_lt 0 (run class.Hexadecimal ds)) 
     short (suc j) r m = no_hex (take (suc j) ds) (run_last class.Hexadecimal ds (suc j) (omega arith) m)
 
     by : (t : Bool) → (b == 120) ≡ t → (u : Bool) → nat_lt 0 (run class.Hexadecimal ds) ≡ u → Fits is_zero_rest (b ∷ ds) (Some (if t && u then suc (run class.Hexadecimal ds) else 0))
-    by false e u h = nothing (λ j m. behind j false e (λ x. cc))
-    by true e false h = nothing (λ j m. behind j true e (λ x. short j (none (run class.Hexadecimal ds) h) m))
+    by false e u h = nothing (λ j m. after j false e (λ x. cc))
+    by true e false h = nothing (λ j m. after j true e (λ x. short j (none (run class.Hexadecimal ds) h) m))
       where
         none : (n : ℕ) → nat_lt 0 n ≡ false → n ≡ 0
         none n h = grind (arith, ltb-false 0 n h)
@@ -94,9 +94,9 @@ fits_zero (b ∷ ds) = by (b == 120) refl (nat_lt 0 (run class.Hexadecimal ds)) 
 
         last : (j : ℕ) → suc (run class.Hexadecimal ds) < j → j ≤ suc (length ds) → is_zero_rest (take j (b ∷ ds)) ≡ false
         last zero l m = absurd (omega arith)
-        last (suc j) l m = behind j true e (λ x. no_hex (take j ds) (run_last class.Hexadecimal ds j (omega arith) (omega arith)))
+        last (suc j) l m = after j true e (λ x. no_hex (take j ds) (run_last class.Hexadecimal ds j (omega arith) (omega arith)))
 
--- A number behind its first digit.
+-- A number after its first digit.
 pub fits_number : (b : ℕ) (bs : List ℕ) → Fits (is_number b) bs (Some (number_length b bs))
 fits_number b bs = by (b == 48) refl
   where
@@ -144,7 +144,7 @@ shift_two test b c cs f z y (Some n) x = at (2 + n) (omega arith)
 quote_ends : (b c : ℕ) (w : List ℕ) → (b == 34) ≡ true → is_text_rest (b ∷ c ∷ w) ≡ false
 quote_ends b c w e = let P : ℕ → Type 0 = λ q. is_text_rest (q ∷ c ∷ w) ≡ false in subst P (sym (eqb-true b 34 e)) refl
 
--- A text behind its opening quote.
+-- A text after its opening quote.
 pub fits_text : (bs : List ℕ) → Fits is_text_rest bs (text_length bs)
 unfolding text_length
 fits_text [] = λ j m. none j
@@ -206,7 +206,7 @@ plain_is_no_escape q b e d = stuck (92 == q) (let P : ℕ → Type 0 = λ x. is_
     stuck true h = cc
     stuck false h = cc
 
--- A character behind its opening quote.
+-- A character after its opening quote.
 pub fits_char : (bs : List ℕ) → Fits is_char_rest bs (char_length bs)
 fits_char [] = λ j m. none j
   where
@@ -276,7 +276,7 @@ fits_char (b ∷ c ∷ d ∷ bs) = by (is_plain 39 b && c == 39) refl
     by true e = (omega arith, e, λ j l m. two j e l m)
     by false e = three (b == 92 && (is_some (escaped c) && d == 39)) e refl
 
--- A mark behind its first byte.
+-- A mark after its first byte.
 pub fits_mark : (a : ℕ) (bs : List ℕ) → Fits (is_mark a) bs (mark_length a bs)
 fits_mark a [] = by (is_single_mark a) refl
   where

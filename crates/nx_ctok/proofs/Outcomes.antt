@@ -19,28 +19,28 @@ use Rattle.nx_ctok.specs.declared.value.Value.{Value}
 use Rattle.nx_ctok.specs.declared.value.Definition.{Definition}
 use Rattle.nx_ctok.specs.Spellings.{kind_of, is_single_mark}
 use Rattle.nx_ctok.specs.Longest.{word_at}
-use Rattle.nx_ctok.specs.Comments.{newlines, line_at, Comment, Absent, Open, Closed, comment_at, gap, after_blanks, all_steps, behind_ignored, ends_line}
-use Rattle.nx_ctok.specs.Directives.{is_too_wide, Found, then_, name_at, constant_of, constant_at, value_at, ended, definition_at, Front, Space, Spelled, Define, Wrong, defined, dropped, directive}
+use Rattle.nx_ctok.specs.Comments.{newlines, line_at, Comment, Absent, Open, Closed, comment_at, gap, after_blanks, all_steps, after_one_ignored, ends_line}
+use Rattle.nx_ctok.specs.Directives.{is_too_wide, Found, then_, name_at, constant_of, constant_at, value_at, ended, definition_at, Piece, Space, Spelled, Define, Wrong, defined, dropped, directive}
 use Rattle.nx_ctok.specs.Predefined.{number_text, predefined_of}
-use Rattle.nx_ctok.specs.Tokens.{checked, is_hash, uncommented, commented, front_at, Definitions, predefined, at_first, with_definition, minus_tokens, replaced, meaning, ahead, Gives, End, Refused, Skipped, Taken, Defined, Reads, IsSpelled, AreEnded, Last, Next}
+use Rattle.nx_ctok.specs.Tokens.{checked, is_hash, uncommented, commented, piece_at, Definitions, predefined, at_first, with_definition, minus_tokens, replaced, meaning, ahead, Gives, End, Refused, Skipped, Taken, Defined, Reads, IsSpelled, AreEnded, Last, Next}
 use Rattle.nx_ctok.specs.Answers.{IsAnswer, IsGiven}
 use Rattle.nx_ctok.proofs.Words.{word_is_spelled}
 
 -- Two things at one place are one.
-space_same : (a b : List ℕ) (f : Front) → f ≡ Space a → f ≡ Space b → a ≡ b
+space_same : (a b : List ℕ) (f : Piece) → f ≡ Space a → f ≡ Space b → a ≡ b
 space_same a b f e g = cc
 
-word_same : (a b : Word) (f : Front) → f ≡ Spelled a → f ≡ Spelled b → a ≡ b
+word_same : (a b : Word) (f : Piece) → f ≡ Spelled a → f ≡ Spelled b → a ≡ b
 word_same a b f e g = cc
 
-definition_same : (a b : Definition) (r s : List ℕ) (f : Front) → f ≡ Define a r → f ≡ Define b s → (a ≡ b) × (r ≡ s)
+definition_same : (a b : Definition) (r s : List ℕ) (f : Piece) → f ≡ Define a r → f ≡ Define b s → (a ≡ b) × (r ≡ s)
 definition_same a b r s f e g = (cc, cc)
 
-wrong_same : (a b : CKind) (f : Front) → f ≡ Wrong a → f ≡ Wrong b → a ≡ b
+wrong_same : (a b : CKind) (f : Piece) → f ≡ Wrong a → f ≡ Wrong b → a ≡ b
 wrong_same a b f e g = cc
 
-nothing_there : (fresh : Bool) → front_at fresh [] ≡ Wrong BadToken
-unfolding front_at
+nothing_there : (fresh : Bool) → piece_at fresh [] ≡ Wrong BadToken
+unfolding piece_at
 nothing_there fresh = refl
 
 -- The rest of a text gives one outcome.
@@ -49,14 +49,14 @@ one_outcome text fresh values bytes o p (End f v) (End g w) = refl
 one_outcome text fresh values bytes o p (End f v) (Skipped g w bs rest out e x) = let n = nothing_there f in absurd (cc)
 one_outcome text fresh values bytes o p (End f v) (Taken g w bs u out e x) = let n = nothing_there f in absurd (cc)
 one_outcome text fresh values bytes o p (End f v) (Defined g w bs rest d out e x) = let n = nothing_there f in absurd (cc)
-one_outcome text fresh values bytes o p (Refused f v b bs k e) (Refused g w c cs l h) = ap (λ m. let o : Result (List Token) CFault = Err (fault.Text (line_at text (b ∷ bs)) m) in o) (wrong_same k l (front_at f (b ∷ bs)) e h)
+one_outcome text fresh values bytes o p (Refused f v b bs k e) (Refused g w c cs l h) = ap (λ m. let o : Result (List Token) CFault = Err (fault.Text (line_at text (b ∷ bs)) m) in o) (wrong_same k l (piece_at f (b ∷ bs)) e h)
 one_outcome text fresh values bytes o p (Refused f v b bs k e) (Skipped g w cs rest out h x) = absurd (cc)
 one_outcome text fresh values bytes o p (Refused f v b bs k e) (Taken g w cs u out h x) = absurd (cc)
 one_outcome text fresh values bytes o p (Refused f v b bs k e) (Defined g w cs rest d out h x) = absurd (cc)
 one_outcome text fresh values bytes o p (Skipped f v bs rest out e x) (End g w) = let n = nothing_there f in absurd (cc)
 one_outcome text fresh values bytes o p (Skipped f v bs rest out e x) (Refused g w c cs l h) = absurd (cc)
 one_outcome text fresh values bytes o p (Skipped f v bs rest out e x) (Skipped g w cs rest' out' h y) =
-    let s = space_same rest rest' (front_at f bs) e h in
+    let s = space_same rest rest' (piece_at f bs) e h in
     one_outcome text (f || nat_lt (newlines rest') (newlines bs)) v rest' out out' (subst (λ r. Gives text (f || nat_lt (newlines r) (newlines bs)) v r out) s x) y
 one_outcome text fresh values bytes o p (Skipped f v bs rest out e x) (Taken g w cs u out' h y) = absurd (cc)
 one_outcome text fresh values bytes o p (Skipped f v bs rest out e x) (Defined g w cs rest' d out' h y) = absurd (cc)
@@ -64,7 +64,7 @@ one_outcome text fresh values bytes o p (Taken f v bs u out e x) (End g w) = let
 one_outcome text fresh values bytes o p (Taken f v bs u out e x) (Refused g w c cs l h) = absurd (cc)
 one_outcome text fresh values bytes o p (Taken f v bs u out e x) (Skipped g w cs rest out' h y) = absurd (cc)
 one_outcome text fresh values bytes o p (Taken f v bs u out e x) (Taken g w cs u' out' h y) =
-    let s = word_same u u' (front_at f bs) e h in
+    let s = word_same u u' (piece_at f bs) e h in
     let q = one_outcome text false v u'.rest out out' (subst (λ z. Gives text false v z.rest out) s x) y in
     rw (s, q) refl
 one_outcome text fresh values bytes o p (Taken f v bs u out e x) (Defined g w cs rest d out' h y) = absurd (cc)
@@ -73,7 +73,7 @@ one_outcome text fresh values bytes o p (Defined f v bs rest d out e x) (Refused
 one_outcome text fresh values bytes o p (Defined f v bs rest d out e x) (Skipped g w cs rest' out' h y) = absurd (cc)
 one_outcome text fresh values bytes o p (Defined f v bs rest d out e x) (Taken g w cs u out' h y) = absurd (cc)
 one_outcome text fresh values bytes o p (Defined f v bs rest d out e x) (Defined g w cs rest' d' out' h y) =
-    let s = definition_same d d' rest rest' (front_at f bs) e h in
+    let s = definition_same d d' rest rest' (piece_at f bs) e h in
     one_outcome text false (with_definition v d') rest' out out' (subst (λ z. Gives text false (with_definition v z) rest' out) s.0 (subst (λ r. Gives text false (with_definition v d) r out) s.1 x)) y
 
 -- So what was answered is all that a text gives.
@@ -87,11 +87,11 @@ abbrev pub IsValue : Value → Type 0
 IsValue v = kind_of v.text ≡ Some v.kind
 
 -- What stands at a place is spelled so.
-abbrev pub IsFront : Front → Type 0
-IsFront (Space rest) = Unit {0}
-IsFront (Spelled w) = kind_of w.text ≡ Some w.kind
-IsFront (Define d rest) = IsValue d.value
-IsFront (Wrong k) = Unit {0}
+abbrev pub IsPiece : Piece → Type 0
+IsPiece (Space rest) = Unit {0}
+IsPiece (Spelled w) = kind_of w.text ≡ Some w.kind
+IsPiece (Define d rest) = IsValue d.value
+IsPiece (Wrong k) = Unit {0}
 
 -- A value that was found is.
 abbrev pub FoundValue : Found Value → Type 0
@@ -155,59 +155,59 @@ definition_is bytes = start (gap bytes)
     start None = tt
     start (Some rest) = named (name_at rest)
 
-defined_is : (o : Found Definition) → FoundDefinition o → IsFront (defined o)
+defined_is : (o : Found Definition) → FoundDefinition o → IsPiece (defined o)
 defined_is None h = tt
 defined_is (Some x) h = by (is_too_wide x.0.value.kind x.0.value.text)
   where
-    by : (t : Bool) → IsFront (if t then Wrong TooWide else Define x.0 x.1)
+    by : (t : Bool) → IsPiece (if t then Wrong TooWide else Define x.0 x.1)
     by true = tt
     by false = h
 
-dropped_is : (rest : List ℕ) → IsFront (dropped rest)
+dropped_is : (rest : List ℕ) → IsPiece (dropped rest)
 dropped_is rest = by (ends_line rest)
   where
-    by : (t : Bool) → IsFront (if t then Space rest else Wrong BadToken)
+    by : (t : Bool) → IsPiece (if t then Space rest else Wrong BadToken)
     by true = tt
     by false = tt
 
-directive_is : (bytes : List ℕ) → IsFront (directive bytes)
+directive_is : (bytes : List ℕ) → IsPiece (directive bytes)
 unfolding directive
 directive_is bytes = by (starts_with nat_eq bytes (codes "#include")) (starts_with nat_eq bytes (codes "#define"))
   where
-    by : (t u : Bool) → IsFront (if t then dropped (all_steps behind_ignored (drop 8 bytes)) else if u then defined (definition_at (drop 7 bytes)) else Wrong BadToken)
-    by true u = dropped_is (all_steps behind_ignored (drop 8 bytes))
+    by : (t u : Bool) → IsPiece (if t then dropped (all_steps after_one_ignored (drop 8 bytes)) else if u then defined (definition_at (drop 7 bytes)) else Wrong BadToken)
+    by true u = dropped_is (all_steps after_one_ignored (drop 8 bytes))
     by false true = defined_is (definition_at (drop 7 bytes)) (definition_is (drop 7 bytes))
     by false false = tt
 
-checked_is : (bytes : List ℕ) → IsFront (checked (word_at bytes))
+checked_is : (bytes : List ℕ) → IsPiece (checked (word_at bytes))
 checked_is bytes = by (word_at bytes) refl
   where
-    narrow : (w : Word) (t : Bool) → kind_of w.text ≡ Some w.kind → IsFront (if t then Wrong TooWide else Spelled w)
+    narrow : (w : Word) (t : Bool) → kind_of w.text ≡ Some w.kind → IsPiece (if t then Wrong TooWide else Spelled w)
     narrow w true h = tt
     narrow w false h = h
 
-    by : (o : Option Word) → word_at bytes ≡ o → IsFront (checked o)
+    by : (o : Option Word) → word_at bytes ≡ o → IsPiece (checked o)
     by None e = tt
     by (Some w) e = narrow w (is_too_wide w.kind w.text) (word_is_spelled bytes w e).spelled
 
-uncommented_is : (fresh : Bool) (bytes : List ℕ) → IsFront (uncommented fresh bytes)
+uncommented_is : (fresh : Bool) (bytes : List ℕ) → IsPiece (uncommented fresh bytes)
 uncommented_is fresh bytes = by (fresh && is_hash bytes)
   where
-    by : (t : Bool) → IsFront (if t then directive bytes else checked (word_at bytes))
+    by : (t : Bool) → IsPiece (if t then directive bytes else checked (word_at bytes))
     by true = directive_is bytes
     by false = checked_is bytes
 
-commented_is : (fresh : Bool) (bytes : List ℕ) (c : Comment) → IsFront (commented fresh bytes c)
+commented_is : (fresh : Bool) (bytes : List ℕ) (c : Comment) → IsPiece (commented fresh bytes c)
 commented_is fresh bytes Absent = uncommented_is fresh bytes
 commented_is fresh bytes Open = tt
 commented_is fresh bytes (Closed rest) = tt
 
-front_is : (fresh : Bool) (bytes : List ℕ) → IsFront (front_at fresh bytes)
-unfolding front_at
-front_is fresh [] = tt
-front_is fresh (b ∷ bs) = by (b == 10 || is_line_blank b)
+piece_is : (fresh : Bool) (bytes : List ℕ) → IsPiece (piece_at fresh bytes)
+unfolding piece_at
+piece_is fresh [] = tt
+piece_is fresh (b ∷ bs) = by (b == 10 || is_line_blank b)
   where
-    by : (t : Bool) → IsFront (if t then Space bs else commented fresh (b ∷ bs) (comment_at (b ∷ bs)))
+    by : (t : Bool) → IsPiece (if t then Space bs else commented fresh (b ∷ bs) (comment_at (b ∷ bs)))
     by true = tt
     by false = commented_is fresh (b ∷ bs) (comment_at (b ∷ bs))
 
@@ -294,9 +294,9 @@ gives_ended text fresh values bytes out a (End f v) = Last (line_at text [])
 gives_ended text fresh values bytes out a (Refused f v b bs k e) = tt
 gives_ended text fresh values bytes out a (Skipped f v bs rest o e x) = gives_ended text (f || nat_lt (newlines rest) (newlines bs)) v rest o a x
 gives_ended text fresh values bytes out a (Taken f v bs w o e x) =
-    replaced_ended (line_at text bs) w.kind w.text (meaning v w.kind w.text) o (subst IsFront e (front_is f bs)) (meaning_are v w.kind w.text a) (gives_ended text false v w.rest o a x)
+    replaced_ended (line_at text bs) w.kind w.text (meaning v w.kind w.text) o (subst IsPiece e (piece_is f bs)) (meaning_are v w.kind w.text a) (gives_ended text false v w.rest o a x)
 gives_ended text fresh values bytes out a (Defined f v bs rest d o e x) =
-    gives_ended text false (with_definition v d) rest o (more_are v d a (subst IsFront e (front_is f bs))) x
+    gives_ended text false (with_definition v d) rest o (more_are v d a (subst IsPiece e (piece_is f bs))) x
 
 -- The tokens of a text end so.
 pub reads_ended : (text : List ℕ) (ts : List Token) → Reads text (Ok ts) → AreEnded ts

@@ -12,7 +12,7 @@ use Rattle.nx_ctok.specs.declared.value.Definition.{Definition}
 use Rattle.nx_ctok.specs.declared.reader.Reader.{Reader}
 use Rattle.nx_ctok.specs.Comments.{newlines, line_at}
 use Rattle.nx_ctok.specs.Directives.{Space, Spelled, Define, Wrong}
-use Rattle.nx_ctok.specs.Tokens.{Definitions, with_definition, meaning, replaced, ahead, front_at, Gives, End, Refused, Skipped, Taken, Defined, Reads}
+use Rattle.nx_ctok.specs.Tokens.{Definitions, with_definition, meaning, replaced, ahead, piece_at, Gives, End, Refused, Skipped, Taken, Defined, Reads}
 use Rattle.nx_ctok.specs.Views.{IsLeft, values_in}
 use Rattle.nx_ctok.specs.Reading.{GivesFrom, Follows, Reached}
 use Rattle.nx_ctok.proofs.Definitions.{values_none}
@@ -27,7 +27,7 @@ ahead_more xs ys (Ok ts) = ap (λ (us : List Token). let o : Result (List Token)
 ahead_more xs ys (Err e) = refl
 
 -- What is refused at the start of a rest.
-pub refused : (text rest : List ℕ) (fresh : Bool) (values : Definitions) (line : ℕ) (k : CKind) → 0 < length rest → front_at fresh rest ≡ Wrong k → line ≡ line_at text rest →
+pub refused : (text rest : List ℕ) (fresh : Bool) (values : Definitions) (line : ℕ) (k : CKind) → 0 < length rest → piece_at fresh rest ≡ Wrong k → line ≡ line_at text rest →
     Gives text fresh values rest (Err (fault.Text line k))
 refused text [] fresh values line k m e l = absurd (omega arith)
 refused text (b ∷ bs) fresh values line k m e l = subst (λ n. Gives text fresh values (b ∷ bs) (Err (fault.Text n k))) (sym l) (Refused fresh values b bs k e)
@@ -46,20 +46,20 @@ passed n a b e = by (nat_lt 0 n) refl
         not_less : b ≤ a → nat_lt a b ≡ false
         not_less l = grind (arith, le-ltb a b l)
 
-pub follow_space : (old new : Reader) (rest behind : List ℕ) (n : ℕ) → front_at old.fresh rest ≡ Space behind → IsLeft behind n rest →
-    new ≡ record old { line = old.line + n; fresh = old.fresh || nat_lt 0 n } → Follows old rest new behind
-follow_space old new rest behind n e left is = subst (λ r. Follows old rest r behind) (sym is) (record {
+pub follow_space : (old new : Reader) (rest after : List ℕ) (n : ℕ) → piece_at old.fresh rest ≡ Space after → IsLeft after n rest →
+    new ≡ record old { line = old.line + n; fresh = old.fresh || nat_lt 0 n } → Follows old rest new after
+follow_space old new rest after n e left is = subst (λ r. Follows old rest r after) (sym is) (record {
   found = [];
   is = sym (append-nil old.found.items);
   line = omega (arith, left.lines);
   later = omega arith;
   less = left.less;
   gives = λ text l out x. subst (λ o. Gives text old.fresh (values_in old.table) rest o) (ahead_none out)
-      (Skipped old.fresh (values_in old.table) rest behind out e
-      (subst (λ t. Gives text (old.fresh || t) (values_in old.table) behind out) (passed n (newlines behind) (newlines rest) left.lines) x));
+      (Skipped old.fresh (values_in old.table) rest after out e
+      (subst (λ t. Gives text (old.fresh || t) (values_in old.table) after out) (passed n (newlines after) (newlines rest) left.lines) x));
 })
 
-pub follow_word : (old new : Reader) (rest : List ℕ) (w : Word) → front_at old.fresh rest ≡ Spelled w → IsLeft w.rest 0 rest →
+pub follow_word : (old new : Reader) (rest : List ℕ) (w : Word) → piece_at old.fresh rest ≡ Spelled w → IsLeft w.rest 0 rest →
     new.found.items ≡ old.found.items ++ replaced old.line w.kind w.text (meaning (values_in old.table) w.kind w.text) → new.table ≡ old.table → new.line ≡ old.line → new.fresh ≡ false →
     Follows old rest new w.rest
 follow_word old new rest w e left f t l n = record {
@@ -73,20 +73,20 @@ follow_word old new rest w e left f t l n = record {
       (subst (λ t. Gives text false (values_in t) w.rest out) t (subst (λ q. Gives text q (values_in new.table) w.rest out) n x)));
 }
 
-pub follow_definition : (old new : Reader) (rest behind : List ℕ) (d : Definition) → front_at old.fresh rest ≡ Define d behind → IsLeft behind 0 rest →
-    new.found.items ≡ old.found.items → values_in new.table ≡ with_definition (values_in old.table) d → new.line ≡ old.line → new.fresh ≡ false → Follows old rest new behind
-follow_definition old new rest behind d e left f t l n = record {
+pub follow_definition : (old new : Reader) (rest after : List ℕ) (d : Definition) → piece_at old.fresh rest ≡ Define d after → IsLeft after 0 rest →
+    new.found.items ≡ old.found.items → values_in new.table ≡ with_definition (values_in old.table) d → new.line ≡ old.line → new.fresh ≡ false → Follows old rest new after
+follow_definition old new rest after d e left f t l n = record {
   found = [];
   is = f ∙ sym (append-nil old.found.items);
   line = omega (arith, left.lines, l);
   later = omega (arith, l);
   less = left.less;
   gives = λ text h out x. subst (λ o. Gives text old.fresh (values_in old.table) rest o) (ahead_none out)
-      (Defined old.fresh (values_in old.table) rest behind d out e
-      (subst (λ v. Gives text false v behind out) t (subst (λ q. Gives text q (values_in new.table) behind out) n x)));
+      (Defined old.fresh (values_in old.table) rest after d out e
+      (subst (λ v. Gives text false v after out) t (subst (λ q. Gives text q (values_in new.table) after out) n x)));
 }
 
--- A place's line, by the newlines behind it.
+-- A place's line, by the newlines after it.
 pub line_there : (text rest : List ℕ) (line : ℕ) → 1 ≤ line → line + newlines rest ≡ 1 + newlines text → line ≡ line_at text rest
 line_there text rest line f e = omega arith
 
@@ -98,8 +98,8 @@ reached_first text r f t l n = record {
       (subst (λ v. Gives text true v text out) (ap values_in t ∙ values_none) (subst (λ q. Gives text q (values_in r.table) text out) n x)));
 }
 
-pub reached_next : (text : List ℕ) (old new : Reader) (rest behind : List ℕ) → Reached text old rest → Follows old rest new behind → Reached text new behind
-reached_next text old new rest behind r f = record {
+pub reached_next : (text : List ℕ) (old new : Reader) (rest after : List ℕ) → Reached text old rest → Follows old rest new after → Reached text new after
+reached_next text old new rest after r f = record {
   first = omega (arith, r.first, f.later);
   line = omega (arith, r.line, f.line);
   gives = λ out x. subst (λ ts. Reads text (ahead ts out)) (sym f.is) (subst (λ o. Reads text o) (ahead_more old.found.items f.found out)

@@ -24,7 +24,7 @@ steps_enough step s (suc n) (suc m) bytes h k = by (step bytes) refl (λ rest. s
     by None e i = refl
     by (Some rest) e i = let l : length rest < length bytes = s.on bytes rest e in i rest (omega arith) (omega arith)
 
--- Where a step is made, the others are made behind it.
+-- Where a step is made, the others are made after it.
 pub steps_more : (step : List ℕ → Option (List ℕ)) → Shortens step → (bytes rest : List ℕ) → step bytes ≡ Some rest → all_steps step bytes ≡ all_steps step rest
 unfolding all_steps steps
 steps_more step s bytes rest e = by (length bytes) refl

@@ -128,7 +128,7 @@ spelled_on_a_line (b ∷ bs) k e = start (is_word_start b) refl e
     start true h e = before b bs (no_newline is_word_start refl b h) (all_pass is_word_byte refl bs (passed (list_all is_word_byte bs) (word_kind (b ∷ bs)) k e))
     start false h e = digit (is_ascii_digit b) refl e
 
--- Newlines of what stands before a place and behind it.
+-- Newlines of what stands before a place and after it.
 newlines_split : (n : ℕ) (bs : List ℕ) → newlines (take n bs) ≡ 0 → newlines bs ≡ newlines (drop n bs)
 newlines_split zero bs e = refl
 newlines_split (suc n) [] e = refl

@@ -12,16 +12,16 @@ use Rattle.nx_ctok.specs.Views.{values_in}
 abbrev pub GivesFrom : List ℕ → Reader → List ℕ → Result (List Token) CFault → Type 0
 GivesFrom text r rest out = Gives text r.fresh (values_in r.table) rest out
 
--- From one place to the next: what the text gives from the next place on, it gives behind these tokens from the first.
-pub record Follows (old : Reader) (rest : List ℕ) (new : Reader) (behind : List ℕ) : Type 0 where
+-- From one place to the next: what the text gives from the next place on, it gives after these tokens from the first.
+pub record Follows (old : Reader) (rest : List ℕ) (new : Reader) (after : List ℕ) : Type 0 where
   pub found : List Token
   pub is : new.found.items ≡ old.found.items ++ found
-  pub line : new.line + newlines behind ≡ old.line + newlines rest
+  pub line : new.line + newlines after ≡ old.line + newlines rest
   pub later : old.line ≤ new.line
-  pub less : length behind < length rest
-  pub gives : (text : List ℕ) → old.line ≡ line_at text rest → (out : Result (List Token) CFault) → GivesFrom text new behind out → GivesFrom text old rest (ahead found out)
+  pub less : length after < length rest
+  pub gives : (text : List ℕ) → old.line ≡ line_at text rest → (out : Result (List Token) CFault) → GivesFrom text new after out → GivesFrom text old rest (ahead found out)
 
--- The text is refused here; want of memory is free.
+-- The text is refused here; out of memory is free.
 abbrev pub IsRefused : CFault → Reader → List ℕ → Type 0
 IsRefused fault.Memory r rest = Unit {0}
 IsRefused (fault.Text line kind) r rest = (text : List ℕ) → r.line ≡ line_at text rest → GivesFrom text r rest (Err (fault.Text line kind))

@@ -24,12 +24,12 @@ abbrev pub longer : ℕ → Option ℕ → Option ℕ
 longer k None = None
 longer k (Some n) = Some (k + n)
 
--- A number behind its first digit 0.
+-- A number after its first digit 0.
 abbrev pub zero_length : List ℕ → ℕ
 zero_length [] = 0
 zero_length (b ∷ bs) = if b == 120 && nat_lt 0 (run class.Hexadecimal bs) then suc (run class.Hexadecimal bs) else 0
 
--- A number behind its first digit.
+-- A number after its first digit.
 abbrev pub number_length : ℕ → List ℕ → ℕ
 number_length first rest = if first == 48 then zero_length rest else run class.Decimal rest
 
@@ -38,7 +38,7 @@ abbrev pub starts_with_quote : List ℕ → Bool
 starts_with_quote [] = false
 starts_with_quote (b ∷ bs) = b == 34
 
--- A text behind its opening quote, up to the closing one.
+-- A text after its opening quote, up to the closing one.
 unfoldable pub text_length : List ℕ → Option ℕ
 text_length [] = None
 text_length (b ∷ []) = if b == 34 then Some 1 else None
@@ -47,7 +47,7 @@ text_length (b ∷ c ∷ bs) =
     else if b == 92 then (if is_some (escaped c) then longer 2 (text_length bs) else None)
     else if is_plain 34 b then longer 1 (text_length (c ∷ bs)) else None
 
--- A character behind its opening quote, up to the closing one.
+-- A character after its opening quote, up to the closing one.
 abbrev pub char_length : List ℕ → Option ℕ
 char_length [] = None
 char_length (b ∷ []) = None
@@ -56,7 +56,7 @@ char_length (b ∷ c ∷ d ∷ bs) =
     if is_plain 39 b && c == 39 then Some 2
     else if b == 92 && (is_some (escaped c) && d == 39) then Some 3 else None
 
--- A mark behind its first byte.
+-- A mark after its first byte.
 abbrev pub mark_length : ℕ → List ℕ → Option ℕ
 mark_length a [] = if is_single_mark a then Some 0 else None
 mark_length a (b ∷ bs) = if is_double_mark a b then Some 1 else if is_single_mark a then Some 0 else None

@@ -45,7 +45,7 @@ abbrev pub are_hex_digits : List ℕ → Bool
 are_hex_digits [] = false
 are_hex_digits (d ∷ ds) = is_ascii_hexdigit d && list_all is_ascii_hexdigit ds
 
--- What may stand behind a first digit 0: nothing, or "x" and hexadecimal digits.
+-- What may stand after a first digit 0: nothing, or "x" and hexadecimal digits.
 abbrev pub is_zero_rest : List ℕ → Bool
 is_zero_rest [] = true
 is_zero_rest (b ∷ bs) = b == 120 && are_hex_digits bs
@@ -58,7 +58,7 @@ is_number first rest = if first == 48 then is_zero_rest rest else list_all is_as
 abbrev pub is_source_byte : ℕ → Bool
 is_source_byte b = b == 9 || (b == 13 || (nat_lt 31 b && nat_lt b 127))
 
--- What a backslash makes of the byte behind it (C11 6.4.4.4).
+-- What a backslash makes of the byte after it (C11 6.4.4.4).
 abbrev pub escaped : ℕ → Option ℕ
 escaped b =
     if b == 110 then Some 10 else if b == 116 then Some 9 else if b == 114 then Some 13 else if b == 48 then Some 0
@@ -68,13 +68,13 @@ escaped b =
 abbrev pub is_plain : ℕ → ℕ → Bool
 is_plain quote b = is_source_byte b && not (b == quote || b == 92)
 
--- What may stand behind the opening quote of a text (C11 6.4.5): bytes and escapes up to the closing quote, the last byte.
+-- What may stand after the opening quote of a text (C11 6.4.5): bytes and escapes up to the closing quote, the last byte.
 abbrev pub is_text_rest : List ℕ → Bool
 is_text_rest [] = false
 is_text_rest (b ∷ []) = b == 34
 is_text_rest (b ∷ c ∷ bs) = if b == 92 then is_some (escaped c) && is_text_rest bs else is_plain 34 b && is_text_rest (c ∷ bs)
 
--- What may stand behind the opening quote of a character (C11 6.4.4.4): one byte or one escape, and the closing quote.
+-- What may stand after the opening quote of a character (C11 6.4.4.4): one byte or one escape, and the closing quote.
 abbrev pub is_char_rest : List ℕ → Bool
 is_char_rest (b ∷ c ∷ []) = is_plain 39 b && c == 39
 is_char_rest (b ∷ c ∷ d ∷ []) = b == 92 && (is_some (escaped c) && d == 39)

@@ -15,12 +15,12 @@ use Rattle.nx_ctok.specs.declared.value.Definition.{Definition}
 use Rattle.nx_ctok.specs.Spellings.{kind_of}
 use Rattle.nx_ctok.specs.Longest.{word_at}
 use Rattle.nx_ctok.specs.Comments.{newlines, line_at, Comment, Absent, Open, Closed, comment_at}
-use Rattle.nx_ctok.specs.Directives.{is_too_wide, Front, Space, Spelled, Define, Wrong, directive}
+use Rattle.nx_ctok.specs.Directives.{is_too_wide, Piece, Space, Spelled, Define, Wrong, directive}
 use Rattle.nx_ctok.specs.declared.predefined.Predefined.{Predefined}
 use Rattle.nx_ctok.specs.Predefined.{number_text, predefined_of}
 
 -- A word that is a token, unless it is a number that is too wide.
-abbrev pub checked : Option Word → Front
+abbrev pub checked : Option Word → Piece
 checked None = Wrong BadToken
 checked (Some w) = if is_too_wide w.kind w.text then Wrong TooWide else Spelled w
 
@@ -29,20 +29,20 @@ abbrev pub is_hash : List ℕ → Bool
 is_hash [] = false
 is_hash (b ∷ bs) = b == 35
 
--- Behind blanks and comments: a line's first "#" makes it a directive, and all else is a token.
-abbrev pub uncommented : Bool → List ℕ → Front
+-- After blanks and comments: a line's first "#" makes it a directive, and all else is a token.
+abbrev pub uncommented : Bool → List ℕ → Piece
 uncommented fresh bytes = if fresh && is_hash bytes then directive bytes else checked (word_at bytes)
 
 -- A comment counts as a space, and one that is never closed is a bad token.
-abbrev pub commented : Bool → List ℕ → Comment → Front
+abbrev pub commented : Bool → List ℕ → Comment → Piece
 commented fresh bytes Absent = uncommented fresh bytes
 commented fresh bytes Open = Wrong BadToken
 commented fresh bytes (Closed rest) = Space rest
 
 -- What stands at the start of a text; fresh: nothing but blanks and comments stands before it on its line.
-unfoldable pub front_at : Bool → List ℕ → Front
-front_at fresh [] = Wrong BadToken
-front_at fresh (b ∷ bs) = if b == 10 || is_line_blank b then Space bs else commented fresh (b ∷ bs) (comment_at (b ∷ bs))
+unfoldable pub piece_at : Bool → List ℕ → Piece
+piece_at fresh [] = Wrong BadToken
+piece_at fresh (b ∷ bs) = if b == 10 || is_line_blank b then Space bs else commented fresh (b ∷ bs) (comment_at (b ∷ bs))
 
 -- The value of each name that is defined so far.
 abbrev pub Definitions : Type 0
@@ -89,13 +89,13 @@ ahead ts (Err e) = Err e
 -- fresh: nothing but blanks and comments stands before the rest on its line. values: the names defined before it.
 pub data Gives (text : List ℕ) : Bool → Definitions → List ℕ → Result (List Token) CFault → Type 0 where
   End : (fresh : Bool) (values : Definitions) → Gives text fresh values [] (Ok (record { kind = kind.End; text = []; line = line_at text [] } ∷ []))
-  Refused : (fresh : Bool) (values : Definitions) (b : ℕ) (bs : List ℕ) (k : CKind) → front_at fresh (b ∷ bs) ≡ Wrong k →
+  Refused : (fresh : Bool) (values : Definitions) (b : ℕ) (bs : List ℕ) (k : CKind) → piece_at fresh (b ∷ bs) ≡ Wrong k →
       Gives text fresh values (b ∷ bs) (Err (fault.Text (line_at text (b ∷ bs)) k))
-  Skipped : (fresh : Bool) (values : Definitions) (bytes rest : List ℕ) (out : Result (List Token) CFault) → front_at fresh bytes ≡ Space rest →
+  Skipped : (fresh : Bool) (values : Definitions) (bytes rest : List ℕ) (out : Result (List Token) CFault) → piece_at fresh bytes ≡ Space rest →
       Gives text (fresh || nat_lt (newlines rest) (newlines bytes)) values rest out → Gives text fresh values bytes out
-  Taken : (fresh : Bool) (values : Definitions) (bytes : List ℕ) (w : Word) (out : Result (List Token) CFault) → front_at fresh bytes ≡ Spelled w →
+  Taken : (fresh : Bool) (values : Definitions) (bytes : List ℕ) (w : Word) (out : Result (List Token) CFault) → piece_at fresh bytes ≡ Spelled w →
       Gives text false values w.rest out → Gives text fresh values bytes (ahead (replaced (line_at text bytes) w.kind w.text (meaning values w.kind w.text)) out)
-  Defined : (fresh : Bool) (values : Definitions) (bytes rest : List ℕ) (d : Definition) (out : Result (List Token) CFault) → front_at fresh bytes ≡ Define d rest →
+  Defined : (fresh : Bool) (values : Definitions) (bytes rest : List ℕ) (d : Definition) (out : Result (List Token) CFault) → piece_at fresh bytes ≡ Define d rest →
       Gives text false (with_definition values d) rest out → Gives text fresh values bytes out
 
 -- What a text gives.

@@ -6,11 +6,11 @@ use Rattle.std.specs.Option.{option_or}
 use Rattle.std.specs.Str.{bytes_eq}
 use Rattle.nx_ctok.specs.declared.comment.Comment.TheVariants as code
 use Rattle.nx_ctok.specs.declared.comment.Comment as code_comment
-use Rattle.nx_ctok.specs.declared.front.Front as code_front
-use Rattle.nx_ctok.specs.declared.front.Front.TheVariants as at
+use Rattle.nx_ctok.specs.declared.piece.Piece as code_piece
+use Rattle.nx_ctok.specs.declared.piece.Piece.TheVariants as at
 use Rattle.nx_ctok.specs.declared.value.Value.{Value}
 use Rattle.nx_ctok.specs.Comments.{newlines, Comment, Absent, Open, Closed}
-use Rattle.nx_ctok.specs.Directives.{Front, Space, Spelled, Define, Wrong}
+use Rattle.nx_ctok.specs.Directives.{Piece, Space, Spelled, Define, Wrong}
 use Rattle.nx_ctok.specs.Tokens.{Definitions, at_first}
 
 -- The comment that was found.
@@ -24,25 +24,25 @@ pub record IsLeft (rest : List ℕ) (count : ℕ) (bytes : List ℕ) : Type 0 wh
   pub lines : newlines bytes ≡ count + newlines rest
   pub less : length rest < length bytes
 
--- What is left behind a comment.
+-- What is left after a comment.
 abbrev pub CommentLeft : code_comment.Comment → List ℕ → Type 0
 CommentLeft code.Absent bytes = Unit {0}
 CommentLeft code.Open bytes = Unit {0}
 CommentLeft (code.Closed rest lines) bytes = IsLeft rest lines bytes
 
 -- What was found at the start of a text.
-abbrev pub front_seen : code_front.Front → Front
-front_seen (at.Space rest lines) = Space rest
-front_seen (at.Spelled w) = Spelled w
-front_seen (at.Define d rest) = Define d rest
-front_seen (at.Wrong k) = Wrong k
+abbrev pub piece_seen : code_piece.Piece → Piece
+piece_seen (at.Space rest lines) = Space rest
+piece_seen (at.Spelled w) = Spelled w
+piece_seen (at.Define d rest) = Define d rest
+piece_seen (at.Wrong k) = Wrong k
 
--- What is left behind it.
-abbrev pub FrontLeft : code_front.Front → List ℕ → Type 0
-FrontLeft (at.Space rest lines) bytes = IsLeft rest lines bytes
-FrontLeft (at.Spelled w) bytes = IsLeft w.rest 0 bytes
-FrontLeft (at.Define d rest) bytes = IsLeft rest 0 bytes
-FrontLeft (at.Wrong k) bytes = Unit {0}
+-- What is left after it.
+abbrev pub PieceLeft : code_piece.Piece → List ℕ → Type 0
+PieceLeft (at.Space rest lines) bytes = IsLeft rest lines bytes
+PieceLeft (at.Spelled w) bytes = IsLeft w.rest 0 bytes
+PieceLeft (at.Define d rest) bytes = IsLeft rest 0 bytes
+PieceLeft (at.Wrong k) bytes = Unit {0}
 
 -- The entries of a map by their names' bytes.
 abbrev pub named : {V : Type 0} → List (Vec ℕ × V) → List (List ℕ × V)

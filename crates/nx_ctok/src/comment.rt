@@ -1,6 +1,6 @@
 ghost use Rattle.std.specs.Prelude.{◌≡◌, ◌≤◌, ◌<◌, length, IfSome};
 ghost use Rattle.std.specs.Option.{option_map};
-ghost use Rattle.nx_ctok.specs.Comments.{newlines, behind_close as behind_the_close, from_newline as from_the_newline, block as block_of, comment_at, on_its_line as on_a_line, behind_blank as behind_a_blank, behind_either, behind_ignored as behind_an_ignored, after_blanks as after_the_blanks, all_steps, gap as gap_at, is_closed, ends_line as ends_a_line};
+ghost use Rattle.nx_ctok.specs.Comments.{newlines, after_close as after_the_close, from_newline as from_the_newline, block as block_of, comment_at, on_its_line as on_a_line, after_one_blank as after_a_blank, after_either, after_one_ignored as after_an_ignored, after_blanks as after_the_blanks, all_steps, gap as gap_at, is_closed, ends_line as ends_a_line};
 ghost use Rattle.nx_ctok.specs.Views.{IsLeft, comment_seen, CommentLeft};
 
 use crate::scan::is_source_byte;
@@ -13,21 +13,21 @@ pub(crate) enum Comment<'a> {
     Absent,
     /// It is never closed.
     Open,
-    /// What stands behind it, and how many newlines it has.
+    /// What stands after it, and how many newlines it has.
     Closed(Spelling<'a>, usize),
 }
 
-/// What stands behind the first `*/`, and how many newlines stand before it.
-#[tactic(auto, unfolding(crate::specs::Comments::behind_close))]
-fn behind_close(bytes: &[u8]) -> Option<(&[u8], usize)>
-    ensures rest { option_map (λ x. x.0.now) result ≡ behind_the_close bytes.now }
+/// What stands after the first `*/`, and how many newlines stand before it.
+#[tactic(auto, unfolding(crate::specs::Comments::after_close))]
+fn after_close(bytes: &[u8]) -> Option<(&[u8], usize)>
+    ensures rest { option_map (λ x. x.0.now) result ≡ after_the_close bytes.now }
     ensures left { IfSome result (λ x. IsLeft x.0.now x.1 bytes.now) }
 {
     let mut rest = bytes;
     let mut lines: usize = 0;
     while let [first, others @ ..] = rest {
-        if let [b'*', b'/', behind @ ..] = rest {
-            return Some((behind, lines));
+        if let [b'*', b'/', after @ ..] = rest {
+            return Some((after, lines));
         }
         lines += usize::from(*first == b'\n');
         rest = others;
@@ -35,7 +35,7 @@ fn behind_close(bytes: &[u8]) -> Option<(&[u8], usize)>
     None
 }
 
-/// A line's newline and what stands behind it.
+/// A line's newline and what stands after it.
 #[tactic(auto, unfolding(crate::specs::Comments::from_newline))]
 fn from_newline(bytes: &[u8]) -> &[u8]
     ensures rest { result.now ≡ from_the_newline bytes.now }
@@ -52,12 +52,12 @@ fn from_newline(bytes: &[u8]) -> &[u8]
     rest
 }
 
-/// A comment behind its `/*`.
+/// A comment after its `/*`.
 fn block(bytes: &[u8]) -> Comment<'_>
-    ensures gives { comment_seen result ≡ block_of (behind_the_close bytes.now) }
+    ensures gives { comment_seen result ≡ block_of (after_the_close bytes.now) }
     ensures left { CommentLeft result bytes.now }
 {
-    match behind_close(bytes) {
+    match after_close(bytes) {
         Some((rest, lines)) => Comment::Closed(Spelling::new(rest), lines),
         None => Comment::Open,
     }
@@ -75,7 +75,7 @@ pub(crate) fn comment_at(bytes: &[u8]) -> Comment<'_>
     }
 }
 
-/// What stands behind a comment that ends on the line where it begins.
+/// What stands after a comment that ends on the line where it begins.
 fn on_its_line(bytes: &[u8]) -> Option<&[u8]>
     ensures gives { option_map (λ x. x.now) result ≡ on_a_line bytes.now (comment_at bytes.now) }
     ensures left { IfSome result (λ x. IsLeft x.now 0 bytes.now) }
@@ -86,9 +86,9 @@ fn on_its_line(bytes: &[u8]) -> Option<&[u8]>
     }
 }
 
-/// What stands behind a blank of a directive's line.
-fn behind_blank(bytes: &[u8]) -> Option<&[u8]>
-    ensures gives { option_map (λ x. x.now) result ≡ behind_a_blank bytes.now }
+/// What stands after a blank of a directive's line.
+fn after_one_blank(bytes: &[u8]) -> Option<&[u8]>
+    ensures gives { option_map (λ x. x.now) result ≡ after_a_blank bytes.now }
     ensures left { IfSome result (λ x. IsLeft x.now 0 bytes.now) }
 {
     match bytes {
@@ -97,9 +97,9 @@ fn behind_blank(bytes: &[u8]) -> Option<&[u8]>
     }
 }
 
-/// What stands behind a source byte, or behind a comment on the line.
-fn behind_ignored(bytes: &[u8]) -> Option<&[u8]>
-    ensures gives { option_map (λ x. x.now) result ≡ behind_an_ignored bytes.now }
+/// What stands after a source byte, or after a comment on the line.
+fn after_one_ignored(bytes: &[u8]) -> Option<&[u8]>
+    ensures gives { option_map (λ x. x.now) result ≡ after_an_ignored bytes.now }
     ensures left { IfSome result (λ x. IsLeft x.now 0 bytes.now) }
 {
     let [first, rest @ ..] = bytes else {
@@ -107,49 +107,49 @@ fn behind_ignored(bytes: &[u8]) -> Option<&[u8]>
     };
     match comment_at(bytes) {
         Comment::Absent if is_source_byte(*first) => Some(rest),
-        Comment::Closed(behind, 0) => Some(behind.bytes()),
+        Comment::Closed(after, 0) => Some(after.bytes()),
         _ => None,
     }
 }
 
-/// What stands behind the blanks of a directive's line.
+/// What stands after the blanks of a directive's line.
 pub(crate) fn after_blanks(bytes: &[u8]) -> &[u8]
     ensures rest { result.now ≡ after_the_blanks bytes.now }
     ensures lines { newlines result.now ≡ newlines bytes.now }
     ensures shorter { length result.now ≤ length bytes.now }
 {
     let mut rest = bytes;
-    while let Some(behind) = behind_blank(rest) {
-        rest = behind;
+    while let Some(after) = after_one_blank(rest) {
+        rest = after;
     }
     rest
 }
 
-/// What stands behind what is ignored on a line.
+/// What stands after what is ignored on a line.
 pub(crate) fn after_ignored(bytes: &[u8]) -> &[u8]
-    ensures rest { result.now ≡ all_steps behind_an_ignored bytes.now }
+    ensures rest { result.now ≡ all_steps after_an_ignored bytes.now }
     ensures lines { newlines result.now ≡ newlines bytes.now }
     ensures shorter { length result.now ≤ length bytes.now }
 {
     let mut rest = bytes;
-    while let Some(behind) = behind_ignored(rest) {
-        rest = behind;
+    while let Some(after) = after_one_ignored(rest) {
+        rest = after;
     }
     rest
 }
 
-/// What stands behind one or more blanks of a directive's line.
+/// What stands after one or more blanks of a directive's line.
 pub(crate) fn gap(bytes: &[u8]) -> Option<&[u8]>
     ensures gives { option_map (λ x. x.now) result ≡ gap_at bytes.now }
     ensures left { IfSome result (λ x. IsLeft x.now 0 bytes.now) }
 {
-    match behind_blank(bytes) {
+    match after_one_blank(bytes) {
         Some(rest) => Some(after_blanks(rest)),
         None => None,
     }
 }
 
-/// Whether a directive's line ends here, behind its blanks.
+/// Whether a directive's line ends here, after its blanks.
 pub(crate) fn ends_line(bytes: &[u8]) -> bool
     ensures { result ≡ ends_a_line bytes.now }
 {

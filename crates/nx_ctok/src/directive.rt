@@ -2,17 +2,17 @@ ghost use Rattle.std.specs.Prelude.{◌≡◌, ◌<◌, List, ℕ, length, IfSom
 ghost use Rattle.std.specs.Option.{option_map};
 ghost use Rattle.nx_ctok.specs.Comments.{newlines, ends_line as ends_a_line};
 ghost use Rattle.nx_ctok.specs.Directives.{is_too_wide as is_wide, name_at, constant_at, value_at, ended as ended_at, definition_at, defined as defined_by, dropped as dropped_at, directive as directive_at};
-ghost use Rattle.nx_ctok.specs.Views.{IsLeft, front_seen, FrontLeft};
+ghost use Rattle.nx_ctok.specs.Views.{IsLeft, piece_seen, PieceLeft};
 
 use crate::CKind;
 use crate::comment::{after_blanks, after_ignored, ends_line, gap};
-use crate::front::Front;
 use crate::number::is_too_wide;
+use crate::piece::Piece;
 use crate::token::{Spelling, TokenKind};
 use crate::value::{Definition, Value};
 use crate::word::word;
 
-/// A name, and what stands behind it.
+/// A name, and what stands after it.
 #[tactic(auto, unfolding(crate::specs::Directives::name_at))]
 fn name(bytes: &[u8]) -> Option<(Spelling<'_>, &[u8])>
     ensures gives { option_map (λ x. (x.0, x.1.now)) result ≡ name_at bytes.now }
@@ -25,7 +25,7 @@ fn name(bytes: &[u8]) -> Option<(Spelling<'_>, &[u8])>
     }
 }
 
-/// A number or a character, and what stands behind it.
+/// A number or a character, and what stands after it.
 #[tactic(auto, unfolding(crate::specs::Directives::constant_at))]
 fn constant(minus: bool, bytes: &[u8]) -> Option<(Value<'_>, &[u8])>
     ensures gives { option_map (λ x. (x.0, x.1.now)) result ≡ constant_at minus bytes.now }
@@ -53,7 +53,7 @@ fn constant(minus: bool, bytes: &[u8]) -> Option<(Value<'_>, &[u8])>
     }
 }
 
-/// A value, and what stands behind it.
+/// A value, and what stands after it.
 fn value(bytes: &[u8]) -> Option<(Value<'_>, &[u8])>
     ensures gives { option_map (λ x. (x.0, x.1.now)) result ≡ value_at bytes.now }
     ensures left { IfSome result (λ x. IsLeft x.1.now 0 bytes.now) }
@@ -65,7 +65,7 @@ fn value(bytes: &[u8]) -> Option<(Value<'_>, &[u8])>
     }
 }
 
-/// A definition, where the line ends behind it.
+/// A definition, where the line ends after it.
 fn ended<'a>(
     name: Spelling<'a>,
     value: Value<'a>,
@@ -80,7 +80,7 @@ fn ended<'a>(
     None
 }
 
-/// What stands behind `#define` in its line.
+/// What stands after `#define` in its line.
 #[tactic(auto, unfolding(crate::specs::Directives::definition_at))]
 fn definition(bytes: &[u8]) -> Option<(Definition<'_>, &[u8])>
     ensures gives { option_map (λ x. (x.0, x.1.now)) result ≡ definition_at bytes.now }
@@ -93,36 +93,36 @@ fn definition(bytes: &[u8]) -> Option<(Definition<'_>, &[u8])>
     ended(name, value, after_blanks(rest))
 }
 
-/// A line behind its `#define`.
-fn define(bytes: &[u8]) -> Front<'_>
-    ensures gives { front_seen result ≡ defined_by (definition_at bytes.now) }
-    ensures left { FrontLeft result bytes.now }
+/// A line after its `#define`.
+fn define(bytes: &[u8]) -> Piece<'_>
+    ensures gives { piece_seen result ≡ defined_by (definition_at bytes.now) }
+    ensures left { PieceLeft result bytes.now }
 {
     let Some((definition, rest)) = definition(bytes) else {
-        return Front::Wrong(CKind::BadToken);
+        return Piece::Wrong(CKind::BadToken);
     };
     if is_too_wide(definition.value.kind, definition.value.text.bytes()) {
-        return Front::Wrong(CKind::TooWide);
+        return Piece::Wrong(CKind::TooWide);
     }
-    Front::Define(definition, Spelling::new(rest))
+    Piece::Define(definition, Spelling::new(rest))
 }
 
 /// An ignored line is dropped up to its end.
-fn dropped(rest: &[u8]) -> Front<'_>
-    ensures gives { front_seen result ≡ dropped_at rest.now }
-    ensures left { (bytes : List ℕ) → newlines rest.now ≡ newlines bytes → length rest.now < length bytes → FrontLeft result bytes }
+fn dropped(rest: &[u8]) -> Piece<'_>
+    ensures gives { piece_seen result ≡ dropped_at rest.now }
+    ensures left { (bytes : List ℕ) → newlines rest.now ≡ newlines bytes → length rest.now < length bytes → PieceLeft result bytes }
 {
     if ends_line(rest) {
-        return Front::Space(Spelling::new(rest), 0);
+        return Piece::Space(Spelling::new(rest), 0);
     }
-    Front::Wrong(CKind::BadToken)
+    Piece::Wrong(CKind::BadToken)
 }
 
 /// A line that begins with `#`.
-#[tactic(auto, unfolding(crate::specs::Directives::directive), using(crate::proofs::Fronts::left_behind))]
-pub(crate) fn directive(bytes: &[u8]) -> Front<'_>
-    ensures gives { front_seen result ≡ directive_at bytes.now }
-    ensures left { FrontLeft result bytes.now }
+#[tactic(auto, unfolding(crate::specs::Directives::directive), using(crate::proofs::Pieces::left_after))]
+pub(crate) fn directive(bytes: &[u8]) -> Piece<'_>
+    ensures gives { piece_seen result ≡ directive_at bytes.now }
+    ensures left { PieceLeft result bytes.now }
 {
     if bytes.starts_with(b"#include") {
         return dropped(after_ignored(&bytes[8..]));
@@ -130,5 +130,5 @@ pub(crate) fn directive(bytes: &[u8]) -> Front<'_>
     if bytes.starts_with(b"#define") {
         return define(&bytes[7..]);
     }
-    Front::Wrong(CKind::BadToken)
+    Piece::Wrong(CKind::BadToken)
 }

@@ -5,11 +5,11 @@
 mod comment;
 mod directive;
 mod fault;
-mod front;
 mod keyword;
 mod laws;
 mod mark;
 mod number;
+mod piece;
 mod predefined;
 mod reader;
 mod scan;

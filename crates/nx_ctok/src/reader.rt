@@ -6,7 +6,7 @@ ghost use Rattle.nx_ctok.specs.Views.{values_in, IsLeft};
 ghost use Rattle.nx_ctok.specs.Reading.{Follows, IsRefused};
 
 use crate::fault::CFault;
-use crate::front::{Front, front_at};
+use crate::piece::{Piece, piece_at};
 use crate::table::Table;
 use crate::token::{Spelling, Token, TokenKind, Word};
 use crate::value::{Definition, Value};
@@ -123,30 +123,30 @@ impl<'a> Reader<'a> {
         Ok(())
     }
 
-    /// Takes what stands at the start of the rest of a text, and gives what stands behind it.
+    /// Takes what stands at the start of the rest of a text, and gives what stands after it.
     pub(crate) fn take(&mut self, alloc: Global, rest: &'a [u8]) -> Result<&'a [u8], CFault>
         requires more { 0 < length rest.now }
         requires line { self.old.line + newlines rest.now ≤ 1048577 }
-        ensures ok { IfOk result (λ behind. Follows self.old rest.now self.new behind.now) }
+        ensures ok { IfOk result (λ after. Follows self.old rest.now self.new after.now) }
         ensures err { IfErr result (λ e. IsRefused e self.old rest.now) }
     {
-        match front_at(self.fresh, rest) {
-            Front::Wrong(kind) => Err(CFault::Text {
+        match piece_at(self.fresh, rest) {
+            Piece::Wrong(kind) => Err(CFault::Text {
                 line: self.line,
                 kind,
             }),
-            Front::Space(behind, lines) => {
+            Piece::Space(after, lines) => {
                 self.skip(lines);
-                Ok(behind.bytes())
+                Ok(after.bytes())
             }
-            Front::Spelled(word) => {
+            Piece::Spelled(word) => {
                 let Word { kind, text, rest } = word;
                 self.spell(kind, text)?;
                 Ok(rest.bytes())
             }
-            Front::Define(definition, behind) => {
+            Piece::Define(definition, after) => {
                 self.define(alloc, definition)?;
-                Ok(behind.bytes())
+                Ok(after.bytes())
             }
         }
     }

@@ -69,7 +69,7 @@ fn is_plain(quote: u8, byte: u8) -> bool
     is_source_byte(byte) && !(byte == quote || byte == b'\\')
 }
 
-/// What a backslash makes of the byte behind it.
+/// What a backslash makes of the byte after it.
 pub(crate) fn escaped(byte: u8) -> Option<u8>
     ensures { result ≡ escaped_byte byte }
 {
@@ -130,7 +130,7 @@ fn closes(bytes: &[u8]) -> bool
     matches!(bytes, [b'"', ..])
 }
 
-/// How many bytes a text has behind its opening quote.
+/// How many bytes a text has after its opening quote.
 fn text_length(bytes: &[u8]) -> Option<usize>
     ensures count { result ≡ length_of_text bytes.now }
     ensures within { IfSome result (λ n. n ≤ length bytes.now) }
@@ -145,7 +145,7 @@ fn text_length(bytes: &[u8]) -> Option<usize>
     Some(count + 1)
 }
 
-/// How many bytes a character has behind its opening quote.
+/// How many bytes a character has after its opening quote.
 fn char_length(bytes: &[u8]) -> Option<usize>
     ensures count { result ≡ length_of_char bytes.now }
     ensures within { IfSome result (λ n. n ≤ length bytes.now) }
@@ -157,7 +157,7 @@ fn char_length(bytes: &[u8]) -> Option<usize>
     }
 }
 
-/// How many bytes a mark has behind its first.
+/// How many bytes a mark has after its first.
 fn mark_length(first: u8, rest: &[u8]) -> Option<usize>
     ensures count { result ≡ length_of_mark first rest.now }
     ensures within { IfSome result (λ n. n ≤ length rest.now) }

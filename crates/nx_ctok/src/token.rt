@@ -65,6 +65,6 @@ pub struct Token<'a> {
 pub struct Word<'a> {
     pub kind: TokenKind,
     pub text: Spelling<'a>,
-    /// What stands behind it.
+    /// What stands after it.
     pub rest: Spelling<'a>,
 }

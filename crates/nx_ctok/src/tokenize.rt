@@ -11,7 +11,7 @@ use crate::reader::Reader;
 use crate::token::{Spelling, Token, TokenKind};
 use std::alloc::{AllocError, Global};
 
-/// The end behind the other tokens.
+/// The end after the other tokens.
 fn push_end<'a>(found: &mut Vec<Token<'a>>, line: u32, rest: &'a [u8]) -> Result<(), AllocError>
     ensures { OnOk result (found.new.items ≡ found.old.items ++ record { kind = End; text = rest.now; line = line } ∷ []) }
 {
@@ -47,7 +47,7 @@ fn read_tokens(alloc: Global, bytes: &[u8]) -> Result<Vec<Token<'_>>, CFault>
     let mut rest = bytes;
     while !rest.is_empty() {
         match reader.take(alloc, rest) {
-            Ok(behind) => rest = behind,
+            Ok(after) => rest = after,
             Err(fault) => return Err(fault),
         }
     }

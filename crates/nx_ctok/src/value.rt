@@ -1,7 +1,7 @@
 use crate::TokenKind;
 use crate::token::Spelling;
 
-/// What a defined name stands for: a number or a character, perhaps behind a minus sign.
+/// What a defined name stands for: a number or a character, perhaps after a minus sign.
 #[derive(Debug, Drop)]
 pub struct Value<'a> {
     pub minus: bool,

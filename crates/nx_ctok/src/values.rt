@@ -21,14 +21,14 @@ fn low_number(base: u64, digits: &[u8]) -> u64
     value
 }
 
-/// The byte that a byte behind a backslash stands for.
+/// The byte that a byte after a backslash stands for.
 fn escape(byte: u8) -> u8
     ensures { result ≡ value_of_escape (escaped_byte byte) }
 {
     escaped(byte).unwrap_or(0)
 }
 
-/// The next byte of a text, and what stands behind it.
+/// The next byte of a text, and what stands after it.
 #[tactic(auto, unfolding(crate::specs::Values::text_rest_of))]
 fn next_byte(bytes: &[u8]) -> Option<(u8, &[u8])>
     ensures gives { MatchOption result (text_rest_of bytes.now ≡ []) (λ x. text_rest_of bytes.now ≡ x.0 ∷ text_rest_of x.1.now) }
@@ -61,7 +61,7 @@ impl<'a> Spelling<'a> {
         }
     }
 
-    /// The bytes that a text's spelling stands for, without a zero byte behind them.
+    /// The bytes that a text's spelling stands for, without a zero byte after them.
     pub fn text(&self, alloc: Global) -> Result<Bytes, AllocError>
         ensures { IfOk result (λ b. b ≡ text_of self.now) }
     {
@@ -72,15 +72,15 @@ impl<'a> Spelling<'a> {
     }
 }
 
-/// The bytes that a text stands for, behind its opening quote.
+/// The bytes that a text stands for, after its opening quote.
 fn text_rest(alloc: Global, bytes: &[u8]) -> Result<Bytes, AllocError>
     ensures { IfOk result (λ b. b ≡ text_rest_of bytes.now) }
 {
     let mut found = Bytes::new(alloc);
     let mut rest = bytes;
-    while let Some((byte, behind)) = next_byte(rest) {
+    while let Some((byte, after)) = next_byte(rest) {
         found.push(byte)?;
-        rest = behind;
+        rest = after;
     }
     Ok(found)
 }

@@ -94,7 +94,7 @@ abbrev pub written : AssignOperator → PlaceKind → ℕ → ℕ
 written assign.Set (place.Name name) h = 0
 written op p h = h
 
--- Each relation is over the tokens, the tree, the nodes on its longest path, and the tokens behind it.
+-- Each relation is over the tokens, the tree, the nodes on its longest path, and the tokens after it.
 mutual
   -- A level's expression.
   pub data IsExpr : ℕ → List Signed → Expr → ℕ → List Signed → Type 0 where
@@ -138,7 +138,7 @@ mutual
     NextArg : (c : Signed) (ts us rest : List Signed) (x : Expr) (xs : List Expr) (a : Expr) (h k : ℕ) → IsArgs ts (x ∷ xs) h (c ∷ us) → c.sign ≡ sign.Comma → IsExpr whole us a k rest →
         IsArgs ts (x ∷ xs ++ a ∷ []) (max h k) rest
 
-  -- A place that a "++" or "--" may stand behind: a name, or an index.
+  -- A place that a "++" or "--" may stand after: a name, or an index.
   pub data IsPostPlace : List Signed → Place → ℕ → List Signed → Type 0 where
     NamePlace : (t : Signed) (rest : List Signed) → t.sign ≡ sign.Name → IsPostPlace (t ∷ rest) (at t.line (place.Name t.text)) 1 rest
     IndexPlace : (o c : Signed) (ts us rest : List Signed) (a i : Expr) (h k : ℕ) → IsExpr 0 ts a h (o ∷ us) → o.sign ≡ sign.OpenBracket → IsExpr whole us i k (c ∷ rest) → c.sign ≡ sign.CloseBracket →

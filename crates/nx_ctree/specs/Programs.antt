@@ -28,7 +28,7 @@ use Rattle.nx_ctree.specs.declared.program.Unit.{Unit as File}
 use Rattle.nx_ctree.specs.Expressions.{IsExpr, IsBase, IsStar, whole}
 use Rattle.nx_ctree.specs.Statements.{IsStmts}
 
--- A constant: a number, a number behind a minus sign, or a character.
+-- A constant: a number, a number after a minus sign, or a character.
 pub data IsConstant : List Signed → Constant → List Signed → Type 0 where
   Number : (t : Signed) (rest : List Signed) → t.sign ≡ sign.Number → IsConstant (t ∷ rest) (record { line = t.line; kind = constant.Number (number_of t.text % 2 ^ 32) }) rest
   Minus : (t n : Signed) (rest : List Signed) → t.sign ≡ sign.Minus → n.sign ≡ sign.Number → IsConstant (t ∷ n ∷ rest) (record { line = t.line; kind = constant.Minus (number_of n.text % 2 ^ 32) }) rest
@@ -70,7 +70,7 @@ pub data IsParams : List Signed → Params → List Signed → Type 0 where
   VoidParams : (t : Signed) (rest : List Signed) → t.sign ≡ sign.Void → IsParams (t ∷ rest) params.Void rest
   ListedParams : (ts rest : List Signed) (ps : List Param) → AreParams ts ps rest → IsParams ts (params.Listed ps) rest
 
--- What stands behind a local's name: nothing, an array's length, or a value, which is a node above its expression.
+-- What stands after a local's name: nothing, an array's length, or a value, which is a node above its expression.
 pub data IsItemRest : ℕ → List Signed → ItemKind → List Signed → Type 0 where
   PlainItem : (d : ℕ) (ts : List Signed) → IsItemRest d ts item.Plain ts
   ArrayItem : (d : ℕ) (ts rest : List Signed) (c : Constant) → IsLength ts c rest → IsItemRest d ts (item.Array c) rest
@@ -92,17 +92,17 @@ pub data AreDecls : ℕ → List Signed → List Decl → List Signed → Type 0
   NextDecl : (d : ℕ) (s : Signed) (ts us vs rest : List Signed) (ds : List Decl) (b : Base) (xs : List Item) → AreDecls d ts ds us → IsBase us b vs → AreItems d vs xs (s ∷ rest) →
       s.sign ≡ sign.Semicolon → AreDecls d ts (ds ++ record { line = first_line us; base = b; items = xs } ∷ []) rest
 
--- A function's body behind its brace: declarations, then statements. The body itself is no node.
+-- A function's body after its brace: declarations, then statements. The body itself is no node.
 pub data IsFunction : ℕ → List Signed → Function → List Signed → Type 0 where
   Body : (d : ℕ) (c : Signed) (ts us rest : List Signed) (ds : List Decl) (xs : List Stmt) → AreDecls d ts ds us → IsStmts false d us xs (c ∷ rest) → c.sign ≡ sign.CloseBrace →
       IsFunction d ts (record { decls = ds; body = xs }) rest
 
--- What stands behind an array's length at file level.
+-- What stands after an array's length at file level.
 pub data IsContents : List Signed → Option Initialiser → List Signed → Type 0 where
   NoContents : (ts : List Signed) → IsContents ts None ts
   Contents : (t : Signed) (ts rest : List Signed) (i : Initialiser) → t.sign ≡ sign.Set → IsInitialiser ts i rest → IsContents (t ∷ ts) (Some i) rest
 
--- What stands behind a name at file level.
+-- What stands after a name at file level.
 pub data IsRest : ℕ → List Signed → Rest → List Signed → Type 0 where
   Plain : (d : ℕ) (t : Signed) (rest : List Signed) → t.sign ≡ sign.Semicolon → IsRest d (t ∷ rest) form.Plain rest
   Valued : (d : ℕ) (t s : Signed) (ts rest : List Signed) (c : Constant) → t.sign ≡ sign.Set → IsConstant ts c (s ∷ rest) → s.sign ≡ sign.Semicolon → IsRest d (t ∷ ts) (form.Valued c) rest

@@ -29,7 +29,7 @@ pub data IsEnded : ℕ → Sign → List Signed → Option Expr → List Signed 
   Given : (d : ℕ) (s : Sign) (t : Signed) (ts rest : List Signed) (a : Expr) → IsPart d ts a (t ∷ rest) → t.sign ≡ s → IsEnded d s ts (Some a) rest
 
 mutual
-  -- In a loop or not; at most so many nodes deep; whether an "if" at its end has no "else"; the tokens, the tree, the tokens behind it.
+  -- In a loop or not; at most so many nodes deep; whether an "if" at its end has no "else"; the tokens, the tree, the tokens after it.
   -- The first branch of an "if" with an "else" ends in no "if" without one: so an "else" belongs to the nearest "if".
   pub data IsStmt : Bool → ℕ → Bool → List Signed → Stmt → List Signed → Type 0 where
     Empty : (loop : Bool) (d : ℕ) (t : Signed) (rest : List Signed) → t.sign ≡ sign.Semicolon → IsStmt loop (suc d) false (t ∷ rest) (stmt t kind.Empty) rest

@@ -3,7 +3,7 @@ use crate::shared::Shared;
 use nx_base::Bytes;
 use sqlite_items::Items;
 
-/// An operator before its operand (C11 section 6.5.3), but for steps, casts and `&`.
+/// An operator before its operand (C11 section 6.5.3), except steps, casts and `&`.
 #[derive(Clone, Copy, Debug, PartialEq, Eq)]
 pub enum UnaryOperator {
     /// `-`

@@ -29,7 +29,7 @@ pub struct Constant {
 #[derive(Debug, Drop)]
 pub enum ConstantKind {
     Number(u32),
-    /// A number behind a minus sign.
+    /// A number after a minus sign.
     Minus(u32),
     Char(u8),
 }
@@ -68,7 +68,7 @@ pub struct Function {
     pub body: Shared<Items<Stmt>>,
 }
 
-/// What stands behind a name at file level.
+/// What stands after a name at file level.
 #[derive(Debug, Drop)]
 pub enum Rest {
     /// A scalar without a value.

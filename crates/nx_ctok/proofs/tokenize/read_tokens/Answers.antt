@@ -9,4 +9,4 @@ pub take-requires-clause-line : goal.take-requires-clause-line
 take-requires-clause-line c = omega (arith, newlines_few c.args.bytes.now)
 
 pub loop-alloc-preserved : goal.loop-alloc-preserved
-loop-alloc-preserved c = reached_next c.args.bytes.now c.loop-alloc.reader c.take.new.self c.loop-alloc.rest.now c.in-Ok.behind.now c.loop-alloc.invariant c.in-Ok.ensures.ok
+loop-alloc-preserved c = reached_next c.args.bytes.now c.loop-alloc.reader c.take.new.self c.loop-alloc.rest.now c.in-Ok.after.now c.loop-alloc.invariant c.in-Ok.ensures.ok

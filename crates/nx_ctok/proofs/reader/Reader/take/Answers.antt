@@ -9,7 +9,7 @@ returns-in-Wrong-clause-err c = λ text l.
 
 pub returns-in-Space-clause-ok : goal.returns-in-Space-clause-ok
 returns-in-Space-clause-ok c =
-    rw c.bytes.ensures (follow_space c.args.self.now c.skip.new.self c.args.rest.now c.in-Space.behind c.in-Space.lines (sym c.in-Space.ensures.gives) c.in-Space.ensures.left c.skip.ensures)
+    rw c.bytes.ensures (follow_space c.args.self.now c.skip.new.self c.args.rest.now c.in-Space.after c.in-Space.lines (sym c.in-Space.ensures.gives) c.in-Space.ensures.left c.skip.ensures)
 
 pub returns-in_ok-spell-in-Spelled-clause-ok : goal.returns-in_ok-spell-in-Spelled-clause-ok
 returns-in_ok-spell-in-Spelled-clause-ok c =
@@ -19,4 +19,4 @@ returns-in_ok-spell-in-Spelled-clause-ok c =
 pub returns-in_ok-define-in-Define-clause-ok : goal.returns-in_ok-define-in-Define-clause-ok
 returns-in_ok-define-in-Define-clause-ok c =
     let e = c.in_ok-define-in-Define.ensures in
-    rw c.bytes-in-Define.ensures (follow_definition c.args.self.now c.define.new.self c.args.rest.now c.in-Define.behind c.in-Define.definition (sym c.in-Define.ensures.gives) c.in-Define.ensures.left e.0 e.1 e.2 e.3)
+    rw c.bytes-in-Define.ensures (follow_definition c.args.self.now c.define.new.self c.args.rest.now c.in-Define.after c.in-Define.definition (sym c.in-Define.ensures.gives) c.in-Define.ensures.left e.0 e.1 e.2 e.3)
