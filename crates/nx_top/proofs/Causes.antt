@@ -1,120 +1,109 @@
 -- What the causes of an answer rule out.
-use Rattle.std.proofs.Common.{◌≡◌, ℕ, false, List, [], ◌∷◌, map, Option, Some, None, Result, Ok, Err, IfOk, refl, sym, ◌∙◌, subst, ◌⊎◌, inl, inr, arith}
-use Rattle.std.specs.Prelude.{nat_eq}
+use Rattle.std.proofs.Common.{◌≡◌, ℕ, ◌<◌, ltb, Bool, true, false, true≢false, List, [], ◌∷◌, length, take, map, Option, Some, None, Result, Ok, Err, IfOk, refl, sym, ◌∙◌, ap, subst, ◌⊎◌, inl, inr, arith}
+use Rattle.std.specs.Prelude.{nat_eq, All, IsSome, IsSomeAnd, slice_get, if◌then◌else◌}
 use Rattle.std.proofs.lemmas.Bool.Decides.{nat_tests}
-use Rattle.std.specs.declared.alloc.AllocError.{AllocError}
-use Rattle.nx_outside.specs.Outside.{Told, Rose}
+use Rattle.std.proofs.lemmas.Bool.{lt-ltb}
+use Rattle.std.proofs.lemmas.List.Elements.{All-head, All-tail}
+use Rattle.nx_base.specs.declared.out_of_memory.OutOfMemory.{OutOfMemory}
+use Rattle.nx_outside.specs.Outside.{Told, Wrote, Rose, IsLong, content_of, longest}
+use Rattle.nx_calls.specs.declared.fault.CallsFault.{CallsFault}
+use Rattle.nx_calls.specs.declared.fault.CallsFault.TheVariants as calls_fault
+use Rattle.nx_calls.specs.declared.row.CallRow.{CallRow}
+use Rattle.nx_calls.proofs.OneTable.{one_table}
+use Rattle.nx_config.specs.declared.fault.ConfigFault.{ConfigFault}
+use Rattle.nx_config.specs.declared.fault.ConfigFault.TheVariants as config_fault
+use Rattle.nx_gate.specs.Gates.{gate_of, listing_of}
 use Rattle.nx_top.specs.declared.answer.Answer.{Answer}
-use Rattle.nx_top.specs.declared.answer.Answer.TheVariants.{Usage, CannotRead, TooLong, Faulty, NotBuilt, Listed, Ran}
-use Rattle.nx_top.specs.Words.{RunForm, GatesForm, CommandLine, Run, Gates, form_of, run_files, gates_files}
-use Rattle.nx_top.specs.Program.{Program}
-use Rattle.nx_top.specs.Inputs.{Got, IsBuilt, FirstBad, Config, Calls, Source, Script}
-use Rattle.nx_top.specs.FilesRead.{GotAll, StopsLong}
-use Rattle.nx_top.specs.Listing.{ComesTo, BadConfig, BadCalls, Lists, FollowsGates, Unread, Long, Read, TheyComeTo, IsFaulty}
-use Rattle.nx_top.specs.Top.{IsCaused, NoForm, ByForm, Follows, FollowsRun, IsRefused, IsAccepted, Ends, Whole, PutFailed, NoMemory, status_of, text_of, got_of}
-use Rattle.nx_top.proofs.ListingLemmas.{they_agree}
+use Rattle.nx_top.specs.declared.answer.Answer.TheVariants.{CannotRead, TooLong, Faulty, NotBuilt, Done}
+use Rattle.nx_top.specs.declared.refusal.FileFault.{FileFault}
+use Rattle.nx_top.specs.Answers.{status_of, text_of}
+use Rattle.nx_top.specs.CommandLine.{RunForm, GatesForm, CommandLine, Run, Gates, form_of, files_of, stops_at_long}
+use Rattle.nx_top.specs.Report.{stop_status}
+use Rattle.nx_top.specs.Examining.{Must, Configuration, CallTable, FlatConfiguration, WriteTable, WriteProgram, OneCommand, Accepts, Refuses, FirstRefused, AllAccepted}
+use Rattle.nx_top.specs.FilesRead.{Outcome, AllRead, Missing, Long, onto, read_before, reading_of, held_of, GotAll, AreContents, StopsAtLong}
+use Rattle.nx_top.specs.commands.GatesCommand.{gates_musts, Lists}
+use Rattle.nx_top.specs.commands.RunCommand.{run_musts, Reports}
+use Rattle.nx_top.specs.Promises.{ContentsComeTo, Refused, Answered, Answers, musts_of, OutcomeComesTo, FilesComeTo, Follows, Unread, LongFile, Read, IsCaused, NoForm, ByForm, Ends, Whole, PutFailed, NoMemory, TopCall, EndsWith, ReadFailed, PutsFailed, IsOf, EveryCommand, IsFaulty, OfGates, OfRun}
 
 unequal : (m n : ℕ) → nat_eq m n ≡ false → m ≡ n → ⊥
 unequal m n f e = grind (arith, nat_tests)
 
-same_run : (x y : RunForm) → Some (Run x) ≡ Some (Run y) → x ≡ y
-same_run x y e = cc
-
-same_gates : (x y : GatesForm) → Some (Gates x) ≡ Some (Gates y) → x ≡ y
-same_gates x y e = cc
-
-no_run : (x : GatesForm) (y : RunForm) (o : Option CommandLine) → o ≡ Some (Gates x) → o ≡ Some (Run y) → ⊥
-no_run x y o e f = let q : Some (Gates x) ≡ Some (Run y) = sym e ∙ f in absurd cc
+same_form : (x y : CommandLine) → Some x ≡ Some y → x ≡ y
+same_form x y e = cc
 
 no_form : (x : CommandLine) (o : Option CommandLine) → o ≡ None → o ≡ Some x → ⊥
 no_form x o e f = let q : None ≡ Some x = sym e ∙ f in absurd cc
 
-same_got : (xs ys : List (Option (List ℕ))) → map Some xs ≡ map Some ys → xs ≡ ys
-same_got [] [] e = refl
-same_got [] (y ∷ ys) e = absurd cc
-same_got (x ∷ xs) [] e = absurd cc
-same_got (x ∷ xs) (y ∷ ys) e =
-    let heads : x ≡ y = cc in
-    let rest : map Some xs ≡ map Some ys = cc in
-    let tails : xs ≡ ys = same_got xs ys rest in
-    cc
+-- the statuses of answers
+abbrev IsStatus : ℕ → Type 0
+IsStatus s = (s ≡ 0) ⊎ (s ≡ 3) ⊎ (s ≡ 13)
 
--- what was read of the same files is the same
-got_once : (t : Told) (f : RunForm) (xs ys : List (Option (List ℕ))) → GotAll (Some t) (run_files f) xs → GotAll (Some t) (run_files f) ys → xs ≡ ys
-got_once t f xs ys a b = same_got xs ys (sym a ∙ b)
+-- the answer to a file that is not what it must be
+refuses_status : (must : Must) (a : Answer) → Refuses must a → (status_of a ≡ 3) ⊎ (status_of a ≡ 13)
+refuses_status (Configuration file None) a h = absurd h
+refuses_status (Configuration file (Some text)) a h = inl (ap status_of h.3)
+refuses_status (CallTable file None content) a h = absurd h
+refuses_status (CallTable file (Some config) None) a h = absurd h
+refuses_status (CallTable file (Some config) (Some text)) a h = inl (ap status_of h.3)
+refuses_status (FlatConfiguration file content) a h = inr (ap status_of h.1)
+refuses_status (WriteTable file content) a h = inr (ap status_of h.1)
+refuses_status (WriteProgram file content) a h = inr (ap status_of h.1)
+refuses_status (OneCommand name file content) a h = inr (ap status_of h.1)
 
--- files that have their forms have no first bad one
-built_not_bad : (form : RunForm) (got : Got) (p : Program) (file : List ℕ) → IsBuilt form got p → FirstBad form got file → ⊥
-built_not_bad form got p file b bad = elim bad [
-  | Config n e ↦ n b.config
-  | Calls c n e ↦ n b.calls
-  | Source c d n e ↦ n p b.program
-  | Script q c d r n e ↦ n b.script
-]
+first_status : (musts : List Must) (a : Answer) → FirstRefused musts a → (status_of a ≡ 3) ⊎ (status_of a ≡ 13)
+first_status [] a h = absurd h
+first_status (must ∷ musts) a (inl h) = refuses_status must a h
+first_status (must ∷ musts) a (inr h) = first_status musts a h.1
 
--- an answer that follows from the form of the words
-pub by_form : (r : Result Answer AllocError) (words : List (List ℕ)) (form : CommandLine) (old new : Option Told) (before now : ℕ) → form_of words ≡ Some form
-    → IfOk r (Follows form old new before now) → IfOk r (IsCaused words old new before now)
-by_form (Ok a) words form old new before now e h = ByForm form a e h
-by_form (Err x) words form old new before now e h = tt
+report_status : (form : RunForm) (contents : List (Option (List ℕ))) (a : Answer) → Reports form contents a → status_of a ≡ 0
+report_status form [] a h = absurd h
+report_status form (x ∷ []) a h = absurd h
+report_status form (x ∷ y ∷ []) a h = absurd h
+report_status form (x ∷ y ∷ z ∷ []) a h = absurd h
+report_status form (x ∷ y ∷ z ∷ w ∷ []) a h = ap status_of h.2.2 ∙ ap stop_status h.2.1.stopped
+report_status form (x ∷ y ∷ z ∷ w ∷ v ∷ vs) a h = absurd h
 
--- the answer to the form of a run whose files have their forms
-run_ran : (a : Answer) (form : RunForm) (t : Told) (new : Option Told) (before now : ℕ) (got : List (Option (List ℕ))) (p : Program) → FollowsRun a form (Some t) new before now
-    → GotAll (Some t) (run_files form) got → IsBuilt form (got_of got) p → (Rose before now → ⊥) → status_of a ≡ 0
-run_ran Usage form t new before now got p h g b never = absurd h.2
-run_ran (CannotRead file) form t new before now got p h g b never = absurd (never h.1)
-run_ran (TooLong file) form t new before now got p h g b never = absurd h.2
-run_ran (Faulty fault) form t new before now got p h g b never = absurd h.2
-run_ran (Listed text) form t new before now got p h g b never = absurd h.2
-run_ran (NotBuilt file) form t new before now got p h g b never =
-    let same : h.0 ≡ got = got_once t form h.0 got h.1.contents g in
-    absurd (built_not_bad form (got_of got) p file b (subst (λ (x : List (Option (List ℕ))). FirstBad form (got_of x) file) same h.2))
-run_ran (Ran report) form t new before now got p h g b never = refl
+lists_status : (contents : List (Option (List ℕ))) (a : Answer) → Lists contents a → status_of a ≡ 0
+lists_status [] a h = absurd h
+lists_status (None ∷ []) a h = absurd h
+lists_status (Some x ∷ []) a h = absurd h
+lists_status (None ∷ y ∷ []) a h = absurd h
+lists_status (Some x ∷ None ∷ []) a h = absurd h
+lists_status (Some x ∷ Some y ∷ []) a h = ap status_of h.2
+lists_status (None ∷ y ∷ z ∷ zs) a h = absurd h
+lists_status (Some x ∷ None ∷ z ∷ zs) a h = absurd h
+lists_status (Some x ∷ Some y ∷ z ∷ zs) a h = absurd h
 
-ran : (a : Answer) (words : List (List ℕ)) (old new : Option Told) (before now : ℕ) → IsCaused words old new before now a → IsAccepted words old → (Rose before now → ⊥) → status_of a ≡ 0
-ran a words None new before now h k never = absurd k
-ran a words (Some t) new before now (NoForm none asked) k never = absurd (no_form _ _ none k.3)
-ran a words (Some t) new before now (ByForm (Run form) b is follows) k never =
-    let same : form ≡ k.0 = same_run form k.0 (sym is ∙ k.3) in
-    run_ran b k.0 t new before now k.1 k.2 (subst (λ (f : RunForm). FollowsRun b f (Some t) new before now) same follows) k.4 k.5 never
-ran a words (Some t) new before now (ByForm (Gates form) b is follows) k never = absurd (no_run form k.0 _ is k.3)
+answers_status : (c : CommandLine) (contents : List (Option (List ℕ))) (a : Answer) → Answers c contents a → status_of a ≡ 0
+answers_status (Run form) contents a h = report_status form contents a h
+answers_status (Gates form) contents a h = lists_status contents a h
 
-pub accepted : (a : Answer) (words : List (List ℕ)) (old new : Option Told) (before now : ℕ) (result : ℕ) (text : List ℕ) (told told' : Option (List ℕ)) (m n : ℕ)
-    → IsCaused words old new before now a → Ends result (status_of a) text told told' m n → IsAccepted words old → (Rose before now → ⊥) → (Rose m n → ⊥) → (result ≡ 0) ⊎ (result ≡ 12)
-accepted a words old new before now result text told told' m n h e k never put = elim e [
-  | Whole s w ↦ inl (s ∙ ran a words old new before now h k never)
-  | PutFailed s w ↦ absurd (put w.rose)
-  | NoMemory s w ↦ inr s
-]
+refused_or : (s : ℕ) → (s ≡ 3) ⊎ (s ≡ 13) → IsStatus s
+refused_or s (inl e) = inr (inl e)
+refused_or s (inr e) = inr (inr e)
 
--- the answer to the form of a run of which a file has not its form
-run_refuses : (a : Answer) (form : RunForm) (t : Told) (new : Option Told) (before now : ℕ) → FollowsRun a form (Some t) new before now → IsRefused form (Some t) → (Rose before now → ⊥) → status_of a ≡ 13
-run_refuses Usage form t new before now h r never = absurd h.2
-run_refuses (CannotRead file) form t new before now h r never = absurd (never h.1)
-run_refuses (TooLong file) form t new before now h r never = absurd h.2
-run_refuses (Faulty fault) form t new before now h r never = absurd h.2
-run_refuses (Listed text) form t new before now h r never = absurd h.2
-run_refuses (NotBuilt file) form t new before now h r never = refl
-run_refuses (Ran report) form t new before now h r never =
-    let same : h.0 ≡ r.0 = got_once t form h.0 r.0 h.1.contents r.2 in
-    absurd (built_not_bad form (got_of r.0) h.2.0 r.1 (subst (λ (x : List (Option (List ℕ))). IsBuilt form (got_of x) h.2.0) same h.2.1) r.3)
+contents_status : (c : CommandLine) (contents : List (Option (List ℕ))) (a : Answer) → ContentsComeTo c contents a → IsStatus (status_of a)
+contents_status c contents a (Refused b first) = refused_or _ (first_status (musts_of c contents) b first)
+contents_status c contents a (Answered b all done) = inl (answers_status c contents b done)
 
-refuses : (a : Answer) (words : List (List ℕ)) (t : Told) (new : Option Told) (before now : ℕ) (form : RunForm) → IsCaused words (Some t) new before now a → form_of words ≡ Some (Run form) → IsRefused form (Some t) → (Rose before now → ⊥) → status_of a ≡ 13
-refuses a words t new before now form (NoForm none asked) f r never = absurd (no_form _ _ none f)
-refuses a words t new before now form (ByForm (Run g) b is follows) f r never =
-    let same : g ≡ form = same_run g form (sym is ∙ f) in
-    run_refuses b form t new before now (subst (λ (x : RunForm). FollowsRun b x (Some t) new before now) same follows) r never
-refuses a words t new before now form (ByForm (Gates g) b is follows) f r never = absurd (no_run g form _ is f)
+no_status : (s want : ℕ) → IsStatus s → s ≡ want → nat_eq 0 want ≡ false → nat_eq 3 want ≡ false → nat_eq 13 want ≡ false → ⊥
+no_status s want (inl e) w f g h = unequal 0 want f (sym e ∙ w)
+no_status s want (inr (inl e)) w f g h = unequal 3 want g (sym e ∙ w)
+no_status s want (inr (inr e)) w f g h = unequal 13 want h (sym e ∙ w)
 
-pub refused : (a : Answer) (words : List (List ℕ)) (t : Told) (old new : Option Told) (before now : ℕ) (result : ℕ) (text : List ℕ) (told told' : Option (List ℕ)) (m n : ℕ) (form : RunForm)
-    → IsCaused words old new before now a → Ends result (status_of a) text told told' m n → old ≡ Some t → form_of words ≡ Some (Run form) → IsRefused form (Some t) → (Rose before now → ⊥) → (result ≡ 13) ⊎ (result ≡ 11) ⊎ (result ≡ 12)
-refused a words t old new before now result text told told' m n form h e is f r never = elim e [
-  | Whole s w ↦ inl (s ∙ refuses a words t new before now form (subst (λ (o : Option Told). IsCaused words o new before now a) is h) f r never)
-  | PutFailed s w ↦ inr (inl s)
-  | NoMemory s w ↦ inr (inr s)
-]
+-- no answer has the status of a failed put or of out of memory
+follows_none : (c : CommandLine) (old new : Option Told) (before now : ℕ) (a : Answer) (want : ℕ) → Follows c old new before now a → status_of a ≡ want
+    → nat_eq 0 want ≡ false → nat_eq 3 want ≡ false → nat_eq 13 want ≡ false → nat_eq 9 want ≡ false → nat_eq 10 want ≡ false → ⊥
+follows_none c old new before now a want (Unread file at rose) s f g h i j = unequal 9 want i s
+follows_none c old new before now a want (LongFile file at) s f g h i j = unequal 10 want j s
+follows_none c old new before now a want (Read contents b have comes) s f g h i j = no_status _ want (contents_status c contents b comes) s f g h
 
--- a call that ended with a status has that of its answer, but for a failed put and want of memory
+caused_none : (words : List (List ℕ)) (old new : Option Told) (before now : ℕ) (a : Answer) (want : ℕ) → IsCaused words old new before now a → status_of a ≡ want
+    → nat_eq 0 want ≡ false → nat_eq 3 want ≡ false → nat_eq 13 want ≡ false → nat_eq 9 want ≡ false → nat_eq 10 want ≡ false → nat_eq 2 want ≡ false → ⊥
+caused_none words old new before now a want (NoForm none asked) s f g h i j k = unequal 2 want k s
+caused_none words old new before now a want (ByForm c b is follows) s f g h i j k = follows_none c old new before now b want follows s f g h i j
+
+-- a call that ended with a status has that of its answer, except where a put failed or memory ran out
 status_is : (result s want : ℕ) (text : List ℕ) (told told' : Option (List ℕ)) (m n : ℕ) → Ends result s text told told' m n → result ≡ want → nat_eq 11 want ≡ false → nat_eq 12 want ≡ false → s ≡ want
 status_is result s want text told told' m n e r f g = elim e [
   | Whole q w ↦ sym q ∙ r
@@ -122,135 +111,370 @@ status_is result s want text told told' m n e r f g = elim e [
   | NoMemory q w ↦ absurd (unequal 12 want g (sym q ∙ r))
 ]
 
-run_bad_file : (a : Answer) (form : RunForm) (old new : Option Told) (before now : ℕ) → FollowsRun a form old new before now → status_of a ≡ 13 → IsRefused form old
-run_bad_file Usage form old new before now h s = absurd h.2
-run_bad_file (CannotRead file) form old new before now h s = absurd (unequal 9 13 refl s)
-run_bad_file (TooLong file) form old new before now h s = absurd h.2
-run_bad_file (Faulty fault) form old new before now h s = absurd h.2
-run_bad_file (Listed text) form old new before now h s = absurd h.2
-run_bad_file (NotBuilt file) form old new before now h s = (h.0, file, h.1.contents, h.2)
-run_bad_file (Ran report) form old new before now h s = absurd (unequal 0 13 refl s)
+-- a call that answered 11 or 12 failed so
+failed_put : (result s : ℕ) (text : List ℕ) (told told' : Option (List ℕ)) (m n : ℕ) → Ends result s text told told' m n → result ≡ 11 → (s ≡ 11 → ⊥) → Rose m n
+failed_put result s text told told' m n e r never = elim e [
+  | Whole q w ↦ absurd (never (sym q ∙ r))
+  | PutFailed q w ↦ w.rose
+  | NoMemory q w ↦ absurd (unequal 12 11 refl (sym q ∙ r))
+]
 
--- the form of a run gives no other status than 0, 9 and 13
-run_status : (a : Answer) (form : RunForm) (old new : Option Told) (before now : ℕ) → FollowsRun a form old new before now → (status_of a ≡ 0) ⊎ (status_of a ≡ 9) ⊎ (status_of a ≡ 13)
-run_status Usage form old new before now h = absurd h.2
-run_status (CannotRead file) form old new before now h = inr (inl refl)
-run_status (TooLong file) form old new before now h = absurd h.2
-run_status (Faulty fault) form old new before now h = absurd h.2
-run_status (Listed text) form old new before now h = absurd h.2
-run_status (NotBuilt file) form old new before now h = inr (inr refl)
-run_status (Ran report) form old new before now h = inl refl
+no_room : (result s : ℕ) (text : List ℕ) (told told' : Option (List ℕ)) (m n : ℕ) → Ends result s text told told' m n → result ≡ 12 → (s ≡ 12 → ⊥) → Wrote told told' []
+no_room result s text told told' m n e r never = elim e [
+  | Whole q w ↦ absurd (never (sym q ∙ r))
+  | PutFailed q w ↦ absurd (unequal 11 12 refl (sym q ∙ r))
+  | NoMemory q w ↦ w
+]
 
-not_of_run : (s want : ℕ) → (s ≡ 0) ⊎ (s ≡ 9) ⊎ (s ≡ 13) → s ≡ want → nat_eq 0 want ≡ false → nat_eq 9 want ≡ false → nat_eq 13 want ≡ false → ⊥
-not_of_run s want (inl e) w f g h = unequal 0 want f (sym e ∙ w)
-not_of_run s want (inr (inl e)) w f g h = unequal 9 want g (sym e ∙ w)
-not_of_run s want (inr (inr e)) w f g h = unequal 13 want h (sym e ∙ w)
+-- an answer that follows from the form of the words
+pub by_form : (r : Result Answer OutOfMemory) (words : List (List ℕ)) (c : CommandLine) (old new : Option Told) (before now : ℕ) → form_of words ≡ Some c
+    → IfOk r (Follows c old new before now) → IfOk r (IsCaused words old new before now)
+by_form (Ok a) words c old new before now e h = ByForm c a e h
+by_form (Err x) words c old new before now e h = tt
 
-texts_status : (form : GatesForm) (config calls : List ℕ) (a : Answer) → ComesTo form config calls a → (status_of a ≡ 0) ⊎ (status_of a ≡ 3)
-texts_status form config calls a (BadConfig line kind e) = inr refl
-texts_status form config calls a (BadCalls row kind e t) = inr refl
-texts_status form config calls a (Lists rows e t) = inl refl
+-- told files: a file that was read stands before the others
+read_step : (stops : Bool) (name : List ℕ) (o : Option (List ℕ)) (content : Option (List ℕ)) (after : Outcome) → held_of o ≡ Some content → (stops ≡ true → IsSome content) → read_before stops name o after ≡ onto content after
+read_step stops name None content after h go = let q : None ≡ Some content = h in absurd cc
+read_step stops name (Some text) content after h go = by (ltb longest (length text)) stops go h
+  where
+    by : (b s : Bool) → (s ≡ true → IsSome content) → Some (if b then None else Some text) ≡ Some content → (if b then (if s then Long name else onto None after) else onto (Some text) after) ≡ onto content after
+    by true true go h = let q : None ≡ content = cc in let p : false ≡ true = subst IsSome (sym q) (go refl) in absurd (true≢false (sym p))
+    by true false go h = let q : None ≡ content = cc in ap (λ (x : Option (List ℕ)). onto x after) q
+    by false s go h = let q : Some text ≡ content = cc in ap (λ (x : Option (List ℕ)). onto x after) q
 
-not_of_texts : (s want : ℕ) → (s ≡ 0) ⊎ (s ≡ 3) → s ≡ want → nat_eq 0 want ≡ false → nat_eq 3 want ≡ false → ⊥
-not_of_texts s want (inl e) w f g = unequal 0 want f (sym e ∙ w)
-not_of_texts s want (inr e) w f g = unequal 3 want g (sym e ∙ w)
+tail_go : (stops : Bool) (x : Option (List ℕ)) (xs : List (Option (List ℕ))) → (stops ≡ true → All IsSome (x ∷ xs)) → stops ≡ true → All IsSome xs
+tail_go stops x xs go s = All-tail IsSome x xs (go s)
 
-not_listed : (form : GatesForm) (old new : Option Told) (before now : ℕ) (a : Answer) → FollowsGates form old new before now a → status_of a ≡ 13 → ⊥
-not_listed form old new before now a (Unread file s rose) e = absurd (unequal 9 13 refl e)
-not_listed form old new before now a (Long file s) e = absurd (unequal 10 13 refl e)
-not_listed form old new before now a (Read config calls b texts comes) e = not_of_texts _ 13 (texts_status form config calls b comes) e refl refl
+-- told files that were all read
+reading_all : (stops : Bool) (t : Told) (names : List (List ℕ)) (contents : List (Option (List ℕ))) → GotAll (Some t) names contents → (stops ≡ true → All IsSome contents) → reading_of stops t names ≡ AllRead contents
+reading_all stops t [] [] h go = refl
+reading_all stops t [] (x ∷ xs) h go = absurd cc
+reading_all stops t (n ∷ ns) [] h go = absurd cc
+reading_all stops t (n ∷ ns) (x ∷ xs) h go =
+    let one : held_of (content_of t.contents n) ≡ Some x = cc in
+    let rest : map (λ n. held_of (content_of t.contents n)) ns ≡ map Some xs = cc in
+    read_step stops n (content_of t.contents n) x (reading_of stops t ns) one (λ s. All-head IsSome x xs (go s))
+    ∙ ap (onto x) (reading_all stops t ns xs rest (tail_go stops x xs go))
 
-gates_status : (form : GatesForm) (old new : Option Told) (before now : ℕ) (a : Answer) → FollowsGates form old new before now a → status_of a ≡ 2 → ⊥
-gates_status form old new before now a (Unread file s rose) e = absurd (unequal 9 2 refl e)
-gates_status form old new before now a (Long file s) e = absurd (unequal 10 2 refl e)
-gates_status form old new before now a (Read config calls b texts comes) e = not_of_texts _ 2 (texts_status form config calls b comes) e refl refl
+-- told files of which one is too long
+long_here : (o : Option (List ℕ)) (name : List ℕ) (after : Outcome) → IsSomeAnd o (λ c. longest < length c) → read_before true name o after ≡ Long name
+long_here None name after h = absurd h
+long_here (Some text) name after h = rw (lt-ltb longest (length text) h) refl
 
-without_form : (a : Answer) (words : List (List ℕ)) (old new : Option Told) (before now : ℕ) → IsCaused words old new before now a → status_of a ≡ 2 → form_of words ≡ None
-without_form a words old new before now (NoForm none asked) s = none
-without_form a words old new before now (ByForm (Run form) b is follows) s = absurd (not_of_run _ 2 (run_status b form old new before now follows) s refl refl refl)
-without_form a words old new before now (ByForm (Gates form) b is follows) s = absurd (gates_status form old new before now b follows s)
+reading_long : (t : Told) (names : List (List ℕ)) (file : List ℕ) (contents : List (Option (List ℕ))) → slice_get names (length contents) ≡ Some file
+    → GotAll (Some t) (take (length contents) names) contents → All IsSome contents → IsLong t file → reading_of true t names ≡ Long file
+reading_long t [] file [] at h go long = let q : None ≡ Some file = at in absurd cc
+reading_long t [] file (x ∷ xs) at h go long = let q : None ≡ Some file = at in absurd cc
+reading_long t (n ∷ ns) file [] at h go long =
+    let q : Some n ≡ Some file = at in
+    let e : n ≡ file = cc in
+    subst (λ (x : List ℕ). reading_of true t (x ∷ ns) ≡ Long file) (sym e) (long_here (content_of t.contents file) file (reading_of true t ns) long)
+reading_long t (n ∷ ns) file (x ∷ xs) at h go long =
+    let all : held_of (content_of t.contents n) ∷ map (λ n. held_of (content_of t.contents n)) (take (length xs) ns) ≡ Some x ∷ map Some xs = h in
+    let one : held_of (content_of t.contents n) ≡ Some x = cc in
+    let rest : map (λ n. held_of (content_of t.contents n)) (take (length xs) ns) ≡ map Some xs = cc in
+    read_step true n (content_of t.contents n) x (reading_of true t ns) one (λ s. All-head IsSome x xs go)
+    ∙ ap (onto x) (reading_long t ns file xs at rest (All-tail IsSome x xs go) long)
 
-pub usage : (a : Answer) (words : List (List ℕ)) (old new : Option Told) (before now : ℕ) (result : ℕ) (text : List ℕ) (told told' : Option (List ℕ)) (m n : ℕ)
-    → IsCaused words old new before now a → Ends result (status_of a) text told told' m n → result ≡ 2 → form_of words ≡ None
-usage a words old new before now result text told told' m n h e r = without_form a words old new before now h (status_is result (status_of a) 2 text told told' m n e r refl refl)
+-- an answer that follows from told files, of which no read failed, is one that they come to
+comes_by : (c : CommandLine) (o p : Outcome) (a : Answer) → p ≡ o → OutcomeComesTo c o a → OutcomeComesTo c p a
+comes_by c o p a e h = subst (λ (x : Outcome). OutcomeComesTo c x a) (sym e) h
 
-run_unread : (a : Answer) (form : RunForm) (old new : Option Told) (before now : ℕ) → FollowsRun a form old new before now → status_of a ≡ 9 → Rose before now
-run_unread Usage form old new before now h s = absurd h.2
-run_unread (CannotRead file) form old new before now h s = h.1
-run_unread (TooLong file) form old new before now h s = absurd h.2
-run_unread (Faulty fault) form old new before now h s = absurd h.2
-run_unread (Listed text) form old new before now h s = absurd h.2
-run_unread (NotBuilt file) form old new before now h s = absurd (unequal 13 9 refl s)
-run_unread (Ran report) form old new before now h s = absurd (unequal 0 9 refl s)
+follows_told : (c : CommandLine) (t : Told) (new : Option Told) (before now : ℕ) (a : Answer) → Follows c (Some t) new before now a → (Rose before now → ⊥) → FilesComeTo c t a
+follows_told c t new before now a (Unread file at rose) never = absurd (never rose)
+follows_told c t new before now a (LongFile file s) never =
+    let b = s.at.before in
+    comes_by c (Long file) _ a
+    (subst (λ (x : Bool). reading_of x t (files_of c) ≡ Long file) (sym s.ends) (reading_long t (files_of c) file s.at.contents s.at.named b.held (b.go_on s.ends) s.long)) refl
+follows_told c t new before now a (Read contents b have comes) never = comes_by c (AllRead contents) _ b (reading_all (stops_at_long c) t (files_of c) contents have.are.held have.are.go_on) comes
 
-gates_unread : (form : GatesForm) (old new : Option Told) (before now : ℕ) (a : Answer) → FollowsGates form old new before now a → status_of a ≡ 9 → Rose before now
-gates_unread form old new before now a (Unread file s rose) e = rose
-gates_unread form old new before now a (Long file s) e = absurd (unequal 10 9 refl e)
-gates_unread form old new before now a (Read config calls b texts comes) e = absurd (not_of_texts _ 9 (texts_status form config calls b comes) e refl refl)
+-- a file is refused in one way, and not accepted then
+some_fault : (f : ConfigFault) (o : Option ConfigFault) → o ≡ None → o ≡ Some f → ⊥
+some_fault f o e k = let q : None ≡ Some f = sym e ∙ k in absurd cc
 
-unread : (a : Answer) (words : List (List ℕ)) (old new : Option Told) (before now : ℕ) → IsCaused words old new before now a → status_of a ≡ 9 → Rose before now
-unread a words old new before now (NoForm none asked) s = absurd (unequal 2 9 refl s)
-unread a words old new before now (ByForm (Run form) b is follows) s = run_unread b form old new before now follows s
-unread a words old new before now (ByForm (Gates form) b is follows) s = gates_unread form old new before now b follows s
+err_ok : (f : CallsFault) (rows : List CallRow) → Err f ≡ Ok rows → ⊥
+err_ok f rows e = absurd cc
 
-pub cannot_read : (a : Answer) (words : List (List ℕ)) (old new : Option Told) (before now : ℕ) (result : ℕ) (text : List ℕ) (told told' : Option (List ℕ)) (m n : ℕ)
-    → IsCaused words old new before now a → Ends result (status_of a) text told told' m n → result ≡ 9 → Rose before now
-cannot_read a words old new before now result text told told' m n h e r = unread a words old new before now h (status_is result (status_of a) 9 text told told' m n e r refl refl)
+refuses_one : (must : Must) (a b : Answer) → Refuses must a → Refuses must b → a ≡ b
+refuses_one (Configuration file None) a b h k = absurd h
+refuses_one (Configuration file (Some text)) a b h k =
+    let q : Some (config_fault.Text h.0 h.1) ≡ Some (config_fault.Text k.0 k.1) = sym h.2 ∙ k.2 in
+    let l : h.0 ≡ k.0 = cc in
+    let m : h.1 ≡ k.1 = cc in
+    let x = h.3 in
+    let y = k.3 in
+    cc
+refuses_one (CallTable file None content) a b h k = absurd h
+refuses_one (CallTable file (Some config) None) a b h k = absurd h
+refuses_one (CallTable file (Some config) (Some text)) a b h k =
+    let q : Err (calls_fault.Text h.0 h.1) ≡ Err (calls_fault.Text k.0 k.1) = one_table _ text _ _ h.2 k.2 in
+    let l : h.0 ≡ k.0 = cc in
+    let m : h.1 ≡ k.1 = cc in
+    let x = h.3 in
+    let y = k.3 in
+    cc
+refuses_one (FlatConfiguration file content) a b h k = h.1 ∙ sym k.1
+refuses_one (WriteTable file content) a b h k = h.1 ∙ sym k.1
+refuses_one (WriteProgram file content) a b h k = h.1 ∙ sym k.1
+refuses_one (OneCommand name file content) a b h k = h.1 ∙ sym k.1
 
-bad_file : (a : Answer) (words : List (List ℕ)) (old new : Option Told) (before now : ℕ) → IsCaused words old new before now a → status_of a ≡ 13 → (form : RunForm) × (form_of words ≡ Some (Run form)) × IsRefused form old
-bad_file a words old new before now (NoForm none asked) s = absurd (unequal 2 13 refl s)
-bad_file a words old new before now (ByForm (Run form) b is follows) s = (form, is, run_bad_file b form old new before now follows s)
-bad_file a words old new before now (ByForm (Gates form) b is follows) s = absurd (not_listed form old new before now b follows s)
+refuses_not : (must : Must) (a : Answer) → Refuses must a → Accepts must → ⊥
+refuses_not (Configuration file None) a h k = h
+refuses_not (Configuration file (Some text)) a h k = some_fault _ _ k h.2
+refuses_not (CallTable file None content) a h k = h
+refuses_not (CallTable file (Some config) None) a h k = h
+refuses_not (CallTable file (Some config) (Some text)) a h k = err_ok _ _ (one_table _ text _ _ h.2 k.1)
+refuses_not (FlatConfiguration file content) a h k = h.0 k
+refuses_not (WriteTable file content) a h k = h.0 k
+refuses_not (WriteProgram file content) a h k = h.0 k.0 k.1
+refuses_not (OneCommand name file content) a h k = h.0 k
 
-pub not_built : (a : Answer) (words : List (List ℕ)) (old new : Option Told) (before now : ℕ) (result : ℕ) (text : List ℕ) (told told' : Option (List ℕ)) (m n : ℕ)
-    → IsCaused words old new before now a → Ends result (status_of a) text told told' m n → result ≡ 13 → (form : RunForm) × (form_of words ≡ Some (Run form)) × IsRefused form old
-not_built a words old new before now result text told told' m n h e r = bad_file a words old new before now h (status_is result (status_of a) 13 text told told' m n e r refl refl)
+first_one : (musts : List Must) (a b : Answer) → FirstRefused musts a → FirstRefused musts b → a ≡ b
+first_one [] a b h k = absurd h
+first_one (must ∷ musts) a b (inl h) (inl k) = refuses_one must a b h k
+first_one (must ∷ musts) a b (inl h) (inr k) = absurd (refuses_not must a h k.0)
+first_one (must ∷ musts) a b (inr h) (inl k) = absurd (refuses_not must b k h.0)
+first_one (must ∷ musts) a b (inr h) (inr k) = first_one musts a b h.1 k.1
 
-texts_faulty : (form : GatesForm) (config calls : List ℕ) (a : Answer) → ComesTo form config calls a → status_of a ≡ 3 → (fault : _) × ComesTo form config calls (Faulty fault)
-texts_faulty form config calls a (BadConfig line kind e) s = (_, BadConfig line kind e)
-texts_faulty form config calls a (BadCalls row kind e t) s = (_, BadCalls row kind e t)
-texts_faulty form config calls a (Lists rows e t) s = absurd (unequal 0 3 refl s)
+first_not : (musts : List Must) (a : Answer) → FirstRefused musts a → AllAccepted musts → ⊥
+first_not [] a h k = h
+first_not (must ∷ musts) a (inl h) k = refuses_not must a h k.0
+first_not (must ∷ musts) a (inr h) k = first_not musts a h.1 k.1
 
-gates_faulty : (form : GatesForm) (old new : Option Told) (before now : ℕ) (a : Answer) → FollowsGates form old new before now a → status_of a ≡ 3 → IsFaulty form old
-gates_faulty form old new before now a (Unread file s rose) e = absurd (unequal 9 3 refl e)
-gates_faulty form old new before now a (Long file s) e = absurd (unequal 10 3 refl e)
-gates_faulty form old new before now a (Read config calls b texts comes) e =
-    let f = texts_faulty form config calls b comes e in
-    (config, calls, f.0, texts.held, texts.short, f.1)
+-- contents have one listing
+lists_one : (contents : List (Option (List ℕ))) (a b : Answer) → Lists contents a → Lists contents b → a ≡ b
+lists_one [] a b h k = absurd h
+lists_one (None ∷ []) a b h k = absurd h
+lists_one (Some x ∷ []) a b h k = absurd h
+lists_one (None ∷ y ∷ []) a b h k = absurd h
+lists_one (Some x ∷ None ∷ []) a b h k = absurd h
+lists_one (Some x ∷ Some y ∷ []) a b h k =
+    let q : Ok h.0 ≡ Ok k.0 = one_table _ y _ _ h.1 k.1 in
+    let same : h.0 ≡ k.0 = cc in
+    h.2 ∙ ap (λ (rows : List CallRow). Done 0 (listing_of (map gate_of rows) ∷ [])) same ∙ sym k.2
+lists_one (None ∷ y ∷ z ∷ zs) a b h k = absurd h
+lists_one (Some x ∷ None ∷ z ∷ zs) a b h k = absurd h
+lists_one (Some x ∷ Some y ∷ z ∷ zs) a b h k = absurd h
 
-faulty : (a : Answer) (words : List (List ℕ)) (old new : Option Told) (before now : ℕ) → IsCaused words old new before now a → status_of a ≡ 3 → (form : GatesForm) × (form_of words ≡ Some (Gates form)) × IsFaulty form old
-faulty a words old new before now (NoForm none asked) s = absurd (unequal 2 3 refl s)
-faulty a words old new before now (ByForm (Run form) b is follows) s = absurd (not_of_run _ 3 (run_status b form old new before now follows) s refl refl refl)
-faulty a words old new before now (ByForm (Gates form) b is follows) s = (form, is, gates_faulty form old new before now b follows s)
+gates_contents : (form : GatesForm) (contents : List (Option (List ℕ))) (a b : Answer) → ContentsComeTo (Gates form) contents a → ContentsComeTo (Gates form) contents b → a ≡ b
+gates_contents form contents a b (Refused a' h) (Refused b' k) = first_one (gates_musts form contents) a' b' h k
+gates_contents form contents a b (Refused a' h) (Answered b' all k) = absurd (first_not (gates_musts form contents) a' h all)
+gates_contents form contents a b (Answered a' all h) (Refused b' k) = absurd (first_not (gates_musts form contents) b' k all)
+gates_contents form contents a b (Answered a' all h) (Answered b' all' k) = lists_one contents a' b' h k
 
-pub no_reading : (a : Answer) (words : List (List ℕ)) (old new : Option Told) (before now : ℕ) (result : ℕ) (text : List ℕ) (told told' : Option (List ℕ)) (m n : ℕ)
-    → IsCaused words old new before now a → Ends result (status_of a) text told told' m n → result ≡ 3 → (form : GatesForm) × (form_of words ≡ Some (Gates form)) × IsFaulty form old
-no_reading a words old new before now result text told told' m n h e r = faulty a words old new before now h (status_is result (status_of a) 3 text told told' m n e r refl refl)
+gates_outcome : (form : GatesForm) (o : Outcome) (a b : Answer) → OutcomeComesTo (Gates form) o a → OutcomeComesTo (Gates form) o b → a ≡ b
+gates_outcome form (AllRead contents) a b h k = gates_contents form contents a b h k
+gates_outcome form (Missing file) a b h k = h ∙ sym k
+gates_outcome form (Long file) a b h k = h ∙ sym k
 
-gates_long : (form : GatesForm) (old new : Option Told) (before now : ℕ) (a : Answer) → FollowsGates form old new before now a → status_of a ≡ 10 → (file : List ℕ) × StopsLong (gates_files form) file old new
-gates_long form old new before now a (Unread file s rose) e = absurd (unequal 9 10 refl e)
-gates_long form old new before now a (Long file s) e = (file, s)
-gates_long form old new before now a (Read config calls b texts comes) e = absurd (not_of_texts _ 10 (texts_status form config calls b comes) e refl refl)
+-- contents that are refused have no other answer
+done_not : (c : CommandLine) (contents : List (Option (List ℕ))) (file : List ℕ) → Answers c contents (NotBuilt file) → ⊥
+done_not c contents file h = unequal 13 0 refl (answers_status c contents (NotBuilt file) h)
 
-long : (a : Answer) (words : List (List ℕ)) (old new : Option Told) (before now : ℕ) → IsCaused words old new before now a → status_of a ≡ 10
-    → (form : GatesForm) × (file : List ℕ) × (form_of words ≡ Some (Gates form)) × StopsLong (gates_files form) file old new
-long a words old new before now (NoForm none asked) s = absurd (unequal 2 10 refl s)
-long a words old new before now (ByForm (Run form) b is follows) s = absurd (not_of_run _ 10 (run_status b form old new before now follows) s refl refl refl)
-long a words old new before now (ByForm (Gates form) b is follows) s = let f = gates_long form old new before now b follows s in (form, f.0, is, f.1)
+refused_contents : (c : CommandLine) (contents : List (Option (List ℕ))) (file : List ℕ) (a b : Answer) → a ≡ NotBuilt file → ContentsComeTo c contents a → ContentsComeTo c contents b → a ≡ b
+refused_contents c contents file a b e (Refused a' h) (Refused b' k) = first_one (musts_of c contents) a' b' h k
+refused_contents c contents file a b e (Refused a' h) (Answered b' all k) = absurd (first_not (musts_of c contents) a' h all)
+refused_contents c contents file a b e (Answered a' all h) k = absurd (done_not c contents file (subst (λ (x : Answer). Answers c contents x) e h))
 
-pub too_long : (a : Answer) (words : List (List ℕ)) (old new : Option Told) (before now : ℕ) (result : ℕ) (text : List ℕ) (told told' : Option (List ℕ)) (m n : ℕ)
-    → IsCaused words old new before now a → Ends result (status_of a) text told told' m n → result ≡ 10
-    → (form : GatesForm) × (file : List ℕ) × (form_of words ≡ Some (Gates form)) × StopsLong (gates_files form) file old new
-too_long a words old new before now result text told told' m n h e r = long a words old new before now h (status_is result (status_of a) 10 text told told' m n e r refl refl)
+not_unread : (file name : List ℕ) → NotBuilt file ≡ CannotRead name → ⊥
+not_unread file name e = absurd cc
 
-the_answer : (a b : Answer) (words : List (List ℕ)) (t : Told) (new : Option Told) (before now : ℕ) (form : GatesForm) → IsCaused words (Some t) new before now a → form_of words ≡ Some (Gates form) → TheyComeTo form t b → (Rose before now → ⊥) → a ≡ b
-the_answer a b words t new before now form (NoForm none asked) f k never = absurd (no_form _ _ none f)
-the_answer a b words t new before now form (ByForm (Run g) a' is follows) f k never = absurd (no_run form g _ f is)
-the_answer a b words t new before now form (ByForm (Gates g) a' is follows) f k never =
-    let same : g ≡ form = same_gates g form (sym is ∙ f) in
-    they_agree form t new before now a' b (subst (λ (x : GatesForm). FollowsGates x (Some t) new before now a') same follows) k never
+not_long : (file name : List ℕ) → NotBuilt file ≡ TooLong name → ⊥
+not_long file name e = absurd cc
 
-pub listed : (a b : Answer) (words : List (List ℕ)) (t : Told) (old new : Option Told) (before now : ℕ) (result : ℕ) (told told' : Option (List ℕ)) (m n : ℕ) (form : GatesForm)
-    → IsCaused words old new before now a → Ends result (status_of a) (text_of a) told told' m n → old ≡ Some t → form_of words ≡ Some (Gates form) → TheyComeTo form t b → (Rose before now → ⊥) → Ends result (status_of b) (text_of b) told told' m n
-listed a b words t old new before now result told told' m n form h e is f k never =
-    subst (λ (x : Answer). Ends result (status_of x) (text_of x) told told' m n) (the_answer a b words t new before now form (subst (λ (o : Option Told). IsCaused words o new before now a) is h) f k never) e
+refused_outcome : (c : CommandLine) (o : Outcome) (file : List ℕ) (b : Answer) → OutcomeComesTo c o (NotBuilt file) → OutcomeComesTo c o b → NotBuilt file ≡ b
+refused_outcome c (AllRead contents) file b h k = refused_contents c contents file (NotBuilt file) b refl h k
+refused_outcome c (Missing name) file b h k = absurd (not_unread file name h)
+refused_outcome c (Long name) file b h k = absurd (not_long file name h)
+
+-- contents that are accepted have an answer of status 0
+accepted_contents : (c : CommandLine) (contents : List (Option (List ℕ))) (a : Answer) → AllAccepted (musts_of c contents) → ContentsComeTo c contents a → status_of a ≡ 0
+accepted_contents c contents a all (Refused b first) = absurd (first_not (musts_of c contents) b first all)
+accepted_contents c contents a all (Answered b all' done) = answers_status c contents b done
+
+-- the first refused file of a run is not built, that of a listing is faulty
+run_first : (form : RunForm) (contents : List (Option (List ℕ))) (a : Answer) → FirstRefused (run_musts form contents) a → (file : List ℕ) × (a ≡ NotBuilt file)
+run_first form [] a h = absurd h
+run_first form (x ∷ []) a h = absurd h
+run_first form (x ∷ y ∷ []) a h = absurd h
+run_first form (x ∷ y ∷ z ∷ []) a h = absurd h
+run_first form (x ∷ y ∷ z ∷ w ∷ []) a (inl h) = (form.config, h.1)
+run_first form (x ∷ y ∷ z ∷ w ∷ []) a (inr (c, inl h)) = (form.calls, h.1)
+run_first form (x ∷ y ∷ z ∷ w ∷ []) a (inr (c, inr (d, inl h))) = (form.file, h.1)
+run_first form (x ∷ y ∷ z ∷ w ∷ []) a (inr (c, inr (d, inr (e, inl h)))) = (form.script, h.1)
+run_first form (x ∷ y ∷ z ∷ w ∷ []) a (inr (c, inr (d, inr (e, inr h)))) = absurd h.1
+run_first form (x ∷ y ∷ z ∷ w ∷ v ∷ vs) a h = absurd h
+
+config_faulty : (file : List ℕ) (content : Option (List ℕ)) (a : Answer) → Refuses (Configuration file content) a → (fault : FileFault) × (a ≡ Faulty fault)
+config_faulty file None a h = absurd h
+config_faulty file (Some text) a h = (_, h.3)
+
+calls_faulty : (file : List ℕ) (config content : Option (List ℕ)) (a : Answer) → Refuses (CallTable file config content) a → (fault : FileFault) × (a ≡ Faulty fault)
+calls_faulty file None content a h = absurd h
+calls_faulty file (Some config) None a h = absurd h
+calls_faulty file (Some config) (Some text) a h = (_, h.3)
+
+gates_first : (form : GatesForm) (contents : List (Option (List ℕ))) (a : Answer) → FirstRefused (gates_musts form contents) a → (fault : FileFault) × (a ≡ Faulty fault)
+gates_first form [] a h = absurd h
+gates_first form (x ∷ []) a h = absurd h
+gates_first form (x ∷ y ∷ []) a (inl h) = config_faulty form.config x a h
+gates_first form (x ∷ y ∷ []) a (inr (c, inl h)) = calls_faulty form.calls x y a h
+gates_first form (x ∷ y ∷ []) a (inr (c, inr h)) = absurd h.1
+gates_first form (x ∷ y ∷ z ∷ zs) a h = absurd h
+
+-- by status: an answer of 3 to a listing, of 13 to a run, of 10 to a listing
+faulty_contents : (form : GatesForm) (contents : List (Option (List ℕ))) (told : Option Told) (a : Answer) → AreContents true (files_of (Gates form)) told contents → ContentsComeTo (Gates form) contents a → status_of a ≡ 3
+    → (fault : FileFault) × IsFaulty (Gates form) told (Faulty fault)
+faulty_contents form contents told a are (Refused b first) s =
+    let f = gates_first form contents b first in
+    (f.0, record { contents = contents; are = are; first = subst (λ (x : Answer). FirstRefused (gates_musts form contents) x) f.1 first })
+faulty_contents form contents told a are (Answered b all done) s = absurd (unequal 0 3 refl (sym (lists_status contents b done) ∙ s))
+
+bad_contents : (form : RunForm) (contents : List (Option (List ℕ))) (told : Option Told) (a : Answer) → AreContents false (files_of (Run form)) told contents → ContentsComeTo (Run form) contents a → status_of a ≡ 13
+    → (file : List ℕ) × IsFaulty (Run form) told (NotBuilt file)
+bad_contents form contents told a are (Refused b first) s =
+    let f = run_first form contents b first in
+    (f.0, record { contents = contents; are = are; first = subst (λ (x : Answer). FirstRefused (run_musts form contents) x) f.1 first })
+bad_contents form contents told a are (Answered b all done) s = absurd (unequal 0 13 refl (sym (report_status form contents b done) ∙ s))
+
+run_not_3 : (form : RunForm) (contents : List (Option (List ℕ))) (a : Answer) → ContentsComeTo (Run form) contents a → status_of a ≡ 3 → ⊥
+run_not_3 form contents a (Refused b first) s = let f = run_first form contents b first in unequal 13 3 refl (sym (ap status_of f.1) ∙ s)
+run_not_3 form contents a (Answered b all done) s = unequal 0 3 refl (sym (report_status form contents b done) ∙ s)
+
+gates_not_13 : (form : GatesForm) (contents : List (Option (List ℕ))) (a : Answer) → ContentsComeTo (Gates form) contents a → status_of a ≡ 13 → ⊥
+gates_not_13 form contents a (Refused b first) s = let f = gates_first form contents b first in unequal 3 13 refl (sym (ap status_of f.1) ∙ s)
+gates_not_13 form contents a (Answered b all done) s = unequal 0 13 refl (sym (lists_status contents b done) ∙ s)
+
+faulty : (words : List (List ℕ)) (old new : Option Told) (before now : ℕ) (a : Answer) → IsCaused words old new before now a → status_of a ≡ 3
+    → (form : GatesForm) × (fault : FileFault) × (form_of words ≡ Some (Gates form)) × IsFaulty (Gates form) old (Faulty fault)
+faulty words old new before now a (NoForm none asked) s = absurd (unequal 2 3 refl s)
+faulty words old new before now a (ByForm c b is (Unread file at rose)) s = absurd (unequal 9 3 refl s)
+faulty words old new before now a (ByForm c b is (LongFile file at)) s = absurd (unequal 10 3 refl s)
+faulty words old new before now a (ByForm (Run form) b is (Read contents b' have comes)) s = absurd (run_not_3 form contents b' comes s)
+faulty words old new before now a (ByForm (Gates form) b is (Read contents b' have comes)) s =
+    let f = faulty_contents form contents old b' have.are comes s in
+    (form, f.0, is, f.1)
+
+bad_file : (words : List (List ℕ)) (old new : Option Told) (before now : ℕ) (a : Answer) → IsCaused words old new before now a → status_of a ≡ 13
+    → (form : RunForm) × (file : List ℕ) × (form_of words ≡ Some (Run form)) × IsFaulty (Run form) old (NotBuilt file)
+bad_file words old new before now a (NoForm none asked) s = absurd (unequal 2 13 refl s)
+bad_file words old new before now a (ByForm c b is (Unread file at rose)) s = absurd (unequal 9 13 refl s)
+bad_file words old new before now a (ByForm c b is (LongFile file at)) s = absurd (unequal 10 13 refl s)
+bad_file words old new before now a (ByForm (Gates form) b is (Read contents b' have comes)) s = absurd (gates_not_13 form contents b' comes s)
+bad_file words old new before now a (ByForm (Run form) b is (Read contents b' have comes)) s =
+    let f = bad_contents form contents old b' have.are comes s in
+    (form, f.0, is, f.1)
+
+long_file : (words : List (List ℕ)) (old new : Option Told) (before now : ℕ) (a : Answer) → IsCaused words old new before now a → status_of a ≡ 10
+    → (form : GatesForm) × (file : List ℕ) × (form_of words ≡ Some (Gates form)) × StopsAtLong true (files_of (Gates form)) file old new
+long_file words old new before now a (NoForm none asked) s = absurd (unequal 2 10 refl s)
+long_file words old new before now a (ByForm c b is (Unread file at rose)) s = absurd (unequal 9 10 refl s)
+long_file words old new before now a (ByForm (Run form) b is (LongFile file at)) s = let q : false ≡ true = at.ends in absurd cc
+long_file words old new before now a (ByForm (Gates form) b is (LongFile file at)) s = (form, file, is, at)
+long_file words old new before now a (ByForm c b is (Read contents b' have comes)) s = absurd (no_status _ 10 (contents_status c contents b' comes) s refl refl refl)
+
+unread : (words : List (List ℕ)) (old new : Option Told) (before now : ℕ) (a : Answer) → IsCaused words old new before now a → status_of a ≡ 9 → Rose before now
+unread words old new before now a (NoForm none asked) s = absurd (unequal 2 9 refl s)
+unread words old new before now a (ByForm c b is (Unread file at rose)) s = rose
+unread words old new before now a (ByForm c b is (LongFile file at)) s = absurd (unequal 10 9 refl s)
+unread words old new before now a (ByForm c b is (Read contents b' have comes)) s = absurd (no_status _ 9 (contents_status c contents b' comes) s refl refl refl)
+
+without_form : (words : List (List ℕ)) (old new : Option Told) (before now : ℕ) (a : Answer) → IsCaused words old new before now a → status_of a ≡ 2 → form_of words ≡ None
+without_form words old new before now a (NoForm none asked) s = none
+without_form words old new before now a (ByForm c b is follows) s = absurd (follows_none c old new before now b 2 follows s refl refl refl refl refl)
+
+has_usage : (words : List (List ℕ)) (old new : Option Told) (before now : ℕ) (a : Answer) → IsCaused words old new before now a → form_of words ≡ None → status_of a ≡ 2
+has_usage words old new before now a (NoForm none asked) e = refl
+has_usage words old new before now a (ByForm c b is follows) e = absurd (no_form c _ e is)
+
+comes_told : (words : List (List ℕ)) (c : CommandLine) (t : Told) (new : Option Told) (before now : ℕ) (a : Answer) → IsCaused words (Some t) new before now a → form_of words ≡ Some c → (Rose before now → ⊥) → FilesComeTo c t a
+comes_told words c t new before now a (NoForm none asked) f never = absurd (no_form c _ none f)
+comes_told words c t new before now a (ByForm d b is follows) f never =
+    let same : d ≡ c = same_form d c (sym is ∙ f) in
+    subst (λ (x : CommandLine). FilesComeTo x t b) same (follows_told d t new before now b follows never)
+
+-- a call that answered, with the cause of its answer
+pub record Caused (k : TopCall) : Type 0 where
+  pub answer : Answer
+  pub cause : IsCaused k.words k.files k.files_after k.failed_reads k.failed_reads_after answer
+  pub ends : EndsWith k answer
+
+caused_told : (k : TopCall) (h : Caused k) (c : CommandLine) (t : Told) → k.files ≡ Some t → IsOf k c → (ReadFailed k → ⊥) → FilesComeTo c t h.answer
+caused_told k h c t told is never =
+    comes_told k.words c t k.files_after k.failed_reads k.failed_reads_after h.answer
+    (subst (λ (o : Option Told). IsCaused k.words o k.files_after k.failed_reads k.failed_reads_after h.answer) told h.cause) is never
+
+is_status : (k : TopCall) (h : Caused k) (want : ℕ) → k.status ≡ want → nat_eq 11 want ≡ false → nat_eq 12 want ≡ false → status_of h.answer ≡ want
+is_status k h want r f g = status_is k.status (status_of h.answer) want (text_of h.answer) k.written k.written_after k.failed_puts k.failed_puts_after h.ends r f g
+
+ends_usage : (k : TopCall) (h : Caused k) → form_of k.words ≡ None → (k.status ≡ 2) ⊎ (k.status ≡ 11) ⊎ (k.status ≡ 12)
+ends_usage k h e = elim h.ends [
+  | Whole s w ↦ inl (s ∙ has_usage k.words _ _ _ _ h.answer h.cause e)
+  | PutFailed s w ↦ inr (inl s)
+  | NoMemory s w ↦ inr (inr s)
+]
+
+pub every_command : (k : TopCall) → Caused k → EveryCommand k
+every_command k h = record {
+  answered = inr (h.answer, h.cause, h.ends);
+  memory = λ r. no_room k.status (status_of h.answer) (text_of h.answer) _ _ _ _ h.ends r (λ s. caused_none _ _ _ _ _ h.answer 12 h.cause s refl refl refl refl refl refl);
+  usage = (λ r. without_form k.words _ _ _ _ h.answer h.cause (is_status k h 2 r refl refl), ends_usage k h);
+  cannot_read = λ r. unread k.words _ _ _ _ h.answer h.cause (is_status k h 9 r refl refl);
+  put_failed = λ r. failed_put k.status (status_of h.answer) (text_of h.answer) _ _ _ _ h.ends r (λ s. caused_none _ _ _ _ _ h.answer 11 h.cause s refl refl refl refl refl refl);
+  told = λ c t is form never. inr (h.answer, caused_told k h c t is form never, h.ends);
+}
+
+ends_same : (k : TopCall) (a b : Answer) → a ≡ b → EndsWith k a → EndsWith k b
+ends_same k a b e h = subst (λ (x : Answer). EndsWith k x) e h
+
+pub of_gates : (k : TopCall) → Caused k → OfGates k
+of_gates k h = record {
+  no_reading = λ r. faulty k.words _ _ _ _ h.answer h.cause (is_status k h 3 r refl refl);
+  too_long = λ r. long_file k.words _ _ _ _ h.answer h.cause (is_status k h 10 r refl refl);
+  one_answer = λ form a come. ends_same k h.answer a (gates_outcome form _ h.answer a (caused_told k h (Gates form) come.told come.tells come.form come.good) come.comes) h.ends;
+}
+
+accepted_status : (form : RunForm) (t : Told) (contents : List (Option (List ℕ))) (a : Answer) → reading_of false t (files_of (Run form)) ≡ AllRead contents → AllAccepted (run_musts form contents) → FilesComeTo (Run form) t a → status_of a ≡ 0
+accepted_status form t contents a e all h = accepted_contents (Run form) contents a all (subst (λ (x : Outcome). OutcomeComesTo (Run form) x a) e h)
+
+ends_accepted : (k : TopCall) (h : Caused k) → status_of h.answer ≡ 0 → (PutsFailed k → ⊥) → (k.status ≡ 0) ⊎ (k.status ≡ 12)
+ends_accepted k h e never = elim h.ends [
+  | Whole s w ↦ inl (s ∙ e)
+  | PutFailed s w ↦ absurd (never w.rose)
+  | NoMemory s w ↦ inr s
+]
+
+pub of_run : (k : TopCall) → Caused k → OfRun k
+of_run k h = record {
+  not_built = λ r. bad_file k.words _ _ _ _ h.answer h.cause (is_status k h 13 r refl refl);
+  refused = λ form file come. ends_same k h.answer (NotBuilt file) (sym (refused_outcome (Run form) _ file h.answer come.comes (caused_told k h (Run form) come.told come.tells come.form come.good))) h.ends;
+  accepted = λ form acc never puts. ends_accepted k h (accepted_status form acc.told acc.contents h.answer acc.read acc.all (caused_told k h (Run form) acc.told acc.tells acc.is_form never)) puts;
+}
+
+-- a call that ran out of memory
+none_is : (k : TopCall) (want : ℕ) → k.status ≡ 12 → k.status ≡ want → nat_eq 12 want ≡ false → ⊥
+none_is k want r s f = unequal 12 want f (sym r ∙ s)
+
+pub no_memory_every : (k : TopCall) → k.status ≡ 12 → Wrote k.written k.written_after [] → EveryCommand k
+no_memory_every k r w = record {
+  answered = inl r;
+  memory = λ s. w;
+  usage = (λ s. absurd (none_is k 2 r s refl), λ e. inr (inr r));
+  cannot_read = λ s. absurd (none_is k 9 r s refl);
+  put_failed = λ s. absurd (none_is k 11 r s refl);
+  told = λ c t is form never. inl r;
+}
+
+pub no_memory_gates : (k : TopCall) → k.status ≡ 12 → Wrote k.written k.written_after [] → OfGates k
+no_memory_gates k r w = record {
+  no_reading = λ s. absurd (none_is k 3 r s refl);
+  too_long = λ s. absurd (none_is k 10 r s refl);
+  one_answer = λ form a come. NoMemory r w;
+}
+
+pub no_memory_run : (k : TopCall) → k.status ≡ 12 → Wrote k.written k.written_after [] → OfRun k
+no_memory_run k r w = record {
+  not_built = λ s. absurd (none_is k 13 r s refl);
+  refused = λ form file come. NoMemory r w;
+  accepted = λ form acc never puts. inr r;
+}

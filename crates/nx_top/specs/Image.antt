@@ -1,31 +1,35 @@
--- An image and its bytes. Numbers are four bytes, the lowest first, unless another width is said.
-use Rattle.std.specs.Prelude.{ℕ, ◌-◌, List, [], ◌∷◌, ◌++◌, length, codes, replicate}
+-- The bytes of an image. Numbers are four bytes, the lowest first, unless another width is said.
+use Rattle.std.specs.Prelude.{ℕ, ◌-◌, ◌<◌, ◌≤◌, ◌^◌, List, [], ◌∷◌, ◌++◌, length, map, codes, replicate}
 use Rattle.std.specs.List.{flat_map}
 use Rattle.nx_base.specs.ByteLists.{to_le}
+use Rattle.nx_base.specs.declared.calls.Kind.{Kind}
+use Rattle.nx_base.specs.declared.calls.Kind.TheVariants.{Word, In, Text, Out, Len, Out4, Out8}
+use Rattle.nx_base.specs.declared.build.Build.{Build}
+use Rattle.nx_base.specs.declared.build.Build.TheVariants.{Flat, Protected, Kernel}
+use Rattle.nx_gate.specs.declared.gate.Gate.{Gate}
 use Rattle.nx_ram.specs.declared.prog_image.ProgImage.{ProgImage}
 
--- a gate: a call's number, and the kind of each parameter
-pub record Gate : Type 0 where
-  pub number : ℕ
-  pub kinds : List ℕ
+abbrev pub build_number : Build → ℕ
+build_number Flat = 0
+build_number Protected = 1
+build_number Kernel = 2
 
--- kinds of parameters: a word, a buffer that is read, the length of a buffer
-abbrev pub word_kind : ℕ
-word_kind = 0
+abbrev pub kind_number : Kind → ℕ
+kind_number Word = 0
+kind_number In = 1
+kind_number Text = 2
+kind_number Out = 3
+kind_number Len = 4
+kind_number Out4 = 5
+kind_number Out8 = 6
 
-abbrev pub in_kind : ℕ
-in_kind = 1
-
-abbrev pub len_kind : ℕ
-len_kind = 4
-
--- zeros behind bytes, up to a width
+-- zeros after bytes, up to a width
 abbrev pub filled : ℕ → List ℕ → List ℕ
 filled width bytes = bytes ++ replicate (width - length bytes) 0
 
 -- 12 bytes: the number in two bytes, the count of kinds in one, a zero, six kinds, two zeros
 unfoldable pub gate_bytes : Gate → List ℕ
-gate_bytes g = to_le 2 g.number ++ length g.kinds ∷ 0 ∷ (filled 6 g.kinds ++ 0 ∷ 0 ∷ [])
+gate_bytes g = to_le 2 g.number ++ length g.kinds.items ∷ 0 ∷ (filled 6 (map kind_number g.kinds.items) ++ 0 ∷ 0 ∷ [])
 
 -- where the text is and how long, the same of the data, the main function and the stubs
 unfoldable pub program_numbers : ProgImage → List ℕ
@@ -38,13 +42,16 @@ unfoldable pub program_bytes : ProgImage → List ℕ
 program_bytes p = filled 32 p.name ++ program_numbers p ++ p.text ++ p.init
 
 -- the mark, the build, the bytes of RAM, the gates, and how many programs follow
-unfoldable pub flat_head : ℕ → List Gate → ℕ → List ℕ
-flat_head ram gates programs = codes "NXI1" ++ to_le 4 0 ++ to_le 4 ram ++ to_le 4 (length gates) ++ flat_map gate_bytes gates ++ to_le 4 programs
+unfoldable pub image_head : Build → ℕ → List Gate → ℕ → List ℕ
+image_head build ram gates programs =
+    codes "NXI1" ++ to_le 4 (build_number build) ++ to_le 4 ram ++ to_le 4 (length gates) ++ flat_map gate_bytes gates ++ to_le 4 programs
 
--- the image of a flat build
-unfoldable pub flat_image_bytes : ℕ → List Gate → List ProgImage → List ℕ
-flat_image_bytes ram gates programs = flat_head ram gates (length programs) ++ flat_map program_bytes programs
+-- an image of a build
+unfoldable pub bytes_of_image : Build → ℕ → List Gate → List ProgImage → List ℕ
+bytes_of_image build ram gates programs = image_head build ram gates (length programs) ++ flat_map program_bytes programs
 
--- write: a descriptor, a buffer and its length
-abbrev pub write_gate : Gate
-write_gate = record { number = 16; kinds = word_kind ∷ in_kind ∷ len_kind ∷ [] }
+-- a program whose name and lengths have room in its bytes
+pub record HasRoom (p : ProgImage) : Type 0 where
+  pub name : length p.name ≤ 32
+  pub text : length p.text < 2 ^ 32
+  pub init : length p.init < 2 ^ 32

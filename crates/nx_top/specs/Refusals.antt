@@ -1,11 +1,11 @@
--- How a file that has no reading is refused.
-use Rattle.std.specs.Prelude.{ℕ, List, ◌∷◌, ◌++◌, codes}
+-- The line of a refusal, and how a file that has no reading is named in one.
+use Rattle.std.specs.Prelude.{ℕ, List, [], ◌∷◌, ◌++◌, codes}
 use Rattle.std.specs.Fmt.{decimal}
 use Rattle.nx_config.specs.FaultTexts as config_texts
 use Rattle.nx_calls.specs.FaultTexts as calls_texts
-use Rattle.nx_top.specs.declared.fault.FaultKind.{FaultKind}
-use Rattle.nx_top.specs.declared.fault.FaultKind.TheVariants.{Config, Calls}
-use Rattle.nx_top.specs.declared.fault.FileFault.{FileFault}
+use Rattle.nx_top.specs.declared.refusal.FaultKind.{FaultKind}
+use Rattle.nx_top.specs.declared.refusal.FaultKind.TheVariants.{Config, Calls}
+use Rattle.nx_top.specs.declared.refusal.FileFault.{FileFault}
 
 -- the words for what is wrong
 abbrev pub kind_text : FaultKind → List ℕ
@@ -19,3 +19,7 @@ line_and_kind fault = 58 ∷ decimal fault.line ++ codes ": " ++ kind_text fault
 -- the file, and what is wrong where
 abbrev pub fault_text : FileFault → List ℕ
 fault_text fault = fault.file ++ line_and_kind fault
+
+-- a refusal is one line
+unfoldable pub refusal : List ℕ → List ℕ
+refusal text = codes "nxsim: " ++ text ++ 10 ∷ []

@@ -1,37 +1,105 @@
-ghost use Rattle.std.specs.Prelude.{◌≡◌, ◌-◌, ◌<◌, ◌≤◌, ◌^◌, ◌++◌, [], ◌∷◌, length, codes, replicate, OnOk, IfOk};
+ghost use Rattle.std.specs.Prelude.{◌≡◌, ◌-◌, ◌<◌, ◌≤◌, ◌^◌, ◌++◌, [], ◌∷◌, length, map, codes, replicate, All, OnOk, IfOk};
+ghost use Rattle.std.specs.List.{flat_map};
 ghost use Rattle.nx_base.specs.ByteLists.{to_le};
-ghost use Rattle.nx_top.specs.Layout.{ram_bytes};
-ghost use Rattle.nx_top.specs.Image.{filled, program_numbers, program_bytes, gate_bytes, flat_image_bytes, flat_head, write_gate};
+ghost use Rattle.nx_gate.specs.Gates.{AreSmall};
+ghost use Rattle.nx_top.specs.Image.{build_number, kind_number, filled, program_numbers, program_bytes, gate_bytes, bytes_of_image, image_head, HasRoom};
 
-use crate::layout::RAM_BYTES;
-use nx_base::Bytes;
+use nx_base::{Build, Bytes, Kind, OutOfMemory};
+use nx_gate::Gate;
 use nx_ram::ProgImage;
-use std::alloc::{AllocError, Global};
+use std::alloc::Global;
 
-// The one gate: number 16 in two bytes, three kinds, a zero; word, in, len; zeros.
-const WRITE_GATE: [u8; 12] = [16, 0, 3, 0, 0, 1, 4, 0, 0, 0, 0, 0];
+fn number_of_build(build: Build) -> u32
+    ensures { result ≡ build_number build }
+{
+    match build {
+        Build::Flat => 0,
+        Build::Protected => 1,
+        Build::Kernel => 2,
+    }
+}
 
-const FLAT_BUILD: u32 = 0;
+fn number_of_kind(kind: Kind) -> u8
+    ensures { result ≡ kind_number kind }
+{
+    match kind {
+        Kind::Word => 0,
+        Kind::In => 1,
+        Kind::Text => 2,
+        Kind::Out => 3,
+        Kind::Len => 4,
+        Kind::Out4 => 5,
+        Kind::Out8 => 6,
+    }
+}
 
-// Puts bytes, and zeros behind them up to a width.
+// Puts zeros after bytes that stand for a field of a width.
+fn put_gap(alloc: Global, bytes: &mut Bytes, width: usize, count: usize) -> Result<(), OutOfMemory>
+    requires { count ≤ width }
+    ensures { OnOk result (bytes.new ≡ bytes.old ++ replicate (width - count) 0) }
+{
+    bytes.append_zeros(alloc, width - count)?;
+    Ok(())
+}
+
+// Puts bytes, and zeros after them up to a width.
 fn put_filled(
     alloc: Global,
     bytes: &mut Bytes,
     width: usize,
     field: &[u8],
-) -> Result<(), AllocError>
+) -> Result<(), OutOfMemory>
     requires { length field.now ≤ width }
     ensures { OnOk result (bytes.new ≡ bytes.old ++ filled width field.now) }
 {
     bytes.append(field)?;
-    bytes.append_zeros(alloc, width - field.len())
+    put_gap(alloc, bytes, width, field.len())
+}
+
+fn put_kinds(bytes: &mut Bytes, kinds: &[Kind]) -> Result<(), OutOfMemory>
+    ensures { OnOk result (bytes.new ≡ bytes.old ++ map kind_number kinds.now) }
+{
+    for kind in kinds {
+        bytes.push(number_of_kind(*kind))?;
+    }
+    Ok(())
+}
+
+// The numbers of six kinds.
+fn put_six_kinds(alloc: Global, bytes: &mut Bytes, kinds: &[Kind]) -> Result<(), OutOfMemory>
+    requires { length kinds.now ≤ 6 }
+    ensures { OnOk result (bytes.new ≡ bytes.old ++ filled 6 (map kind_number kinds.now)) }
+{
+    put_kinds(bytes, kinds)?;
+    put_gap(alloc, bytes, 6, kinds.len())
+}
+
+#[tactic(auto, unfolding(crate::specs::Image::gate_bytes))]
+fn put_gate(alloc: Global, bytes: &mut Bytes, gate: &Gate) -> Result<(), OutOfMemory>
+    ensures { OnOk result (bytes.new ≡ bytes.old ++ gate_bytes gate.now) }
+{
+    let kinds = gate.kinds.as_slice();
+    bytes.append_le16(gate.number)?;
+    bytes.push(kinds.len() as u8)?;
+    bytes.push(0)?;
+    put_six_kinds(alloc, bytes, kinds)?;
+    bytes.append(&[0, 0])?;
+    Ok(())
+}
+
+fn put_gates(alloc: Global, bytes: &mut Bytes, gates: &[Gate]) -> Result<(), OutOfMemory>
+    ensures { OnOk result (bytes.new ≡ bytes.old ++ flat_map gate_bytes gates.now) }
+{
+    for gate in gates {
+        put_gate(alloc, bytes, gate)?;
+    }
+    Ok(())
 }
 
 // The addresses and lengths of a program.
 #[tactic(auto, unfolding(crate::specs::Image::program_numbers))]
-fn put_numbers(bytes: &mut Bytes, program: &ProgImage) -> Result<(), AllocError>
-    requires text { length program.now.text < 2 ^ 32 }
-    requires init { length program.now.init < 2 ^ 32 }
+fn put_numbers(bytes: &mut Bytes, program: &ProgImage) -> Result<(), OutOfMemory>
+    requires { HasRoom program.now }
     ensures { OnOk result (bytes.new ≡ bytes.old ++ program_numbers program.now) }
 {
     bytes.append_le32(program.text_at)?;
@@ -40,52 +108,70 @@ fn put_numbers(bytes: &mut Bytes, program: &ProgImage) -> Result<(), AllocError>
     bytes.append_le32(program.init.len() as u32)?;
     bytes.append_le32(program.main)?;
     bytes.append_le32(program.end_group)?;
-    bytes.append_le32(program.end_thread)
+    bytes.append_le32(program.end_thread)?;
+    Ok(())
 }
 
 #[tactic(auto, unfolding(crate::specs::Image::program_bytes))]
-fn put_program(alloc: Global, bytes: &mut Bytes, program: &ProgImage) -> Result<(), AllocError>
-    requires name { length program.now.name ≤ 32 }
-    requires text { length program.now.text < 2 ^ 32 }
-    requires init { length program.now.init < 2 ^ 32 }
+fn put_program(alloc: Global, bytes: &mut Bytes, program: &ProgImage) -> Result<(), OutOfMemory>
+    requires { HasRoom program.now }
     ensures { OnOk result (bytes.new ≡ bytes.old ++ program_bytes program.now) }
 {
     put_filled(alloc, bytes, 32, program.name.as_str().as_bytes())?;
     put_numbers(bytes, program)?;
     bytes.append(program.text.as_slice())?;
-    bytes.append(program.init.as_slice())
+    bytes.append(program.init.as_slice())?;
+    Ok(())
 }
 
-#[tactic(auto, unfolding(crate::specs::Image::gate_bytes, nx_base::specs::ByteLists::to_le))]
-fn put_gate(bytes: &mut Bytes) -> Result<(), AllocError>
-    ensures { OnOk result (bytes.new ≡ bytes.old ++ gate_bytes write_gate) }
+fn put_programs(alloc: Global, bytes: &mut Bytes, programs: &[ProgImage]) -> Result<(), OutOfMemory>
+    requires { All HasRoom programs.now }
+    ensures { OnOk result (bytes.new ≡ bytes.old ++ flat_map program_bytes programs.now) }
 {
-    bytes.append(&WRITE_GATE)
+    for program in programs {
+        put_program(alloc, bytes, program)?;
+    }
+    Ok(())
 }
 
-// The mark, the build, the bytes of RAM, the gates and the count of programs.
-#[tactic(auto, unfolding(crate::specs::Image::flat_head))]
-fn put_head(bytes: &mut Bytes) -> Result<(), AllocError>
-    ensures { OnOk result (bytes.new ≡ bytes.old ++ flat_head ram_bytes (write_gate ∷ []) 1) }
+#[tactic(auto, unfolding(crate::specs::Image::image_head))]
+fn put_head(
+    alloc: Global,
+    bytes: &mut Bytes,
+    build: Build,
+    ram: u32,
+    gates: &[Gate],
+    programs: usize,
+) -> Result<(), OutOfMemory>
+    requires gates { length gates.now < 2 ^ 32 }
+    requires programs { programs < 2 ^ 32 }
+    ensures { OnOk result (bytes.new ≡ bytes.old ++ image_head build ram gates.now programs) }
 {
     bytes.append(b"NXI1")?;
-    bytes.append_le32(FLAT_BUILD)?;
-    bytes.append_le32(RAM_BYTES)?;
-    bytes.append_le32(1)?;
-    put_gate(bytes)?;
-    bytes.append_le32(1)
+    bytes.append_le32(number_of_build(build))?;
+    bytes.append_le32(ram)?;
+    bytes.append_le32(gates.len() as u32)?;
+    put_gates(alloc, bytes, gates)?;
+    bytes.append_le32(programs as u32)?;
+    Ok(())
 }
 
-/// The bytes of a flat image with the gate of `write` and one program.
-#[tactic(auto, unfolding(crate::specs::Image::flat_image_bytes))]
-pub fn image_bytes(alloc: Global, program: &ProgImage) -> Result<Bytes, AllocError>
-    requires name { length program.now.name ≤ 32 }
-    requires text { length program.now.text < 2 ^ 32 }
-    requires init { length program.now.init < 2 ^ 32 }
-    ensures { IfOk result (λ bytes. bytes ≡ flat_image_bytes ram_bytes (write_gate ∷ []) (program.now ∷ [])) }
+/// The bytes of an image: of a build, with so many bytes of RAM, with these gates and programs.
+#[tactic(auto, unfolding(crate::specs::Image::bytes_of_image))]
+pub fn image_bytes(
+    alloc: Global,
+    build: Build,
+    ram: u32,
+    gates: &[Gate],
+    programs: &[ProgImage],
+) -> Result<Bytes, OutOfMemory>
+    requires gates { length gates.now < 2 ^ 32 }
+    requires count { length programs.now < 2 ^ 32 }
+    requires programs { All HasRoom programs.now }
+    ensures { IfOk result (λ bytes. bytes ≡ bytes_of_image build ram gates.now programs.now) }
 {
     let mut bytes = Bytes::new(alloc);
-    put_head(&mut bytes)?;
-    put_program(alloc, &mut bytes, program)?;
+    put_head(alloc, &mut bytes, build, ram, gates, programs.len())?;
+    put_programs(alloc, &mut bytes, programs)?;
     Ok(bytes)
 }

@@ -1,29 +1,21 @@
-//! The top call: it reads the files of the words, builds the image, runs it and puts the report.
+//! The top call: it reads the files that the words name, does what the command is for, and puts
+//! what it came to.
 #![tactic(auto)]
 
 mod answer;
-mod boot;
-mod build;
-mod compile;
-mod fault;
-mod gates;
-mod guest;
+mod command_line;
+mod commands;
+mod first;
 mod image;
-mod inputs;
-mod keeps;
-mod layout;
-mod program;
-mod put;
+mod output;
+mod pieces;
 mod reading;
+mod refusal;
 mod report;
-mod run;
-mod seen;
-mod tokens;
 mod top;
-mod words;
 
-pub use keeps::words_keep_the_program;
-pub use program::one_program;
+pub use first::laws::words_keep_the_program;
+pub use first::program::one_program;
 pub use top::nxsim;
 
 #[cfg(test)]

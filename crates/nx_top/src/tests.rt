@@ -1,4 +1,5 @@
 use crate::nxsim;
+use nx_base::OutOfMemory;
 use nx_outside::{MemFiles, MemSink};
 use std::alloc::{AllocError, Global};
 use std::test::Fail;
@@ -46,6 +47,14 @@ status 2 hello 255
 status 1 nsh 255
 ";
 
+const LONGEST_END: &str = "a
+stop: ended
+calls 21
+instructions 186
+status 2 hello 0
+status 1 nsh 0
+";
+
 fn entry(alloc: Global, name: &str, text: &str) -> Result<(String, Vec<u8>), AllocError> {
     let name = String::from_str(alloc, name)?;
     let text = Vec::from_slice(alloc, text.as_bytes())?;
@@ -68,9 +77,23 @@ fn files(
     Ok(MemFiles::new(alloc, entries, fails))
 }
 
-fn sink(alloc: Global, fails: &[u32], keep: usize) -> Result<MemSink, AllocError> {
+fn sink(alloc: Global, fails: &[u32], keep: usize) -> Result<MemSink, OutOfMemory> {
     let fails = Vec::from_slice(alloc, fails)?;
-    MemSink::new(alloc, fails, keep, 4096)
+    MemSink::new(alloc, fails, keep, 8192)
+}
+
+// 16 writes of 255 bytes each.
+fn longest_program(alloc: Global) -> Result<String, AllocError> {
+    let mut text = String::from_str(alloc, "int main(void) {\n")?;
+    for _ in 0..16 {
+        text.push_str("write(1, \"")?;
+        for _ in 0..255 {
+            text.push_str("a")?;
+        }
+        text.push_str("\", 255);\n")?;
+    }
+    text.push_str("return 0; }\n")?;
+    Ok(text)
 }
 
 // A run answers its status, and what it puts ends with a text.
@@ -98,6 +121,19 @@ fn rows(rt: HostRuntime) -> Result<(), Fail> {
 }
 
 #[test]
+fn the_longest_program_runs(rt: HostRuntime) -> Result<(), Fail> {
+    let alloc = rt.alloc();
+    let run = ["run", "c", "t", "s", "hello=p.c"];
+    let program = longest_program(alloc)?;
+    let mut files = files(alloc, CALLS, program.as_str(), "hello\n", &[])?;
+    let mut out = sink(alloc, &[], 0)?;
+    assert_eq!(rt; nxsim(alloc, &run, &mut files, &mut out), 0);
+    assert_eq!(rt; out.bytes().len(), 4246);
+    assert!(rt; out.bytes().ends_with(LONGEST_END.as_bytes()));
+    Ok(())
+}
+
+#[test]
 fn words_without_a_form_ask_nothing(rt: HostRuntime) -> Result<(), Fail> {
     let alloc = rt.alloc();
     let none: [u32; 0] = [];
@@ -110,7 +146,7 @@ fn words_without_a_form_ask_nothing(rt: HostRuntime) -> Result<(), Fail> {
     Ok(())
 }
 
-// The read of each file in turn fails. Nothing behind it is read.
+// The read of each file in turn fails. Nothing after it is read.
 #[test]
 fn each_read_fails(rt: HostRuntime) -> Result<(), Fail> {
     let alloc = rt.alloc();
@@ -147,7 +183,7 @@ fn each_put_fails(rt: HostRuntime) -> Result<(), Fail> {
     Ok(())
 }
 
-// A file of a byte more than a read hands out is not built, and the files behind it are read all the same.
+// A file of a byte more than a read hands out is not built, and the files after it are read all the same.
 #[test]
 fn a_file_is_too_long(rt: HostRuntime) -> Result<(), Fail> {
     let alloc = rt.alloc();

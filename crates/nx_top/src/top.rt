@@ -1,22 +1,22 @@
-ghost use Rattle.std.specs.Prelude.{◌≡◌, ◌⊎◌, ◌++◌, [], None, Some, List, ℕ, map};
+ghost use Rattle.std.specs.Prelude.{◌≡◌, ◌≤◌, ◌++◌, [], List, ℕ, map, length, All, IfOk, IsSome, true};
 ghost use Rattle.std.specs.List.{flat_map};
-ghost use Rattle.nx_outside.specs.Outside.{Told, Wrote, Rose};
-ghost use Rattle.nx_top.specs.declared.answer.Answer.{Answer};
-ghost use Rattle.nx_top.specs.Words.{RunForm, GatesForm, Run, Gates, form_of, gates_files};
-ghost use Rattle.nx_top.specs.Listing.{TheyComeTo, IsFaulty};
-ghost use Rattle.nx_top.specs.FilesRead.{StopsLong};
-ghost use Rattle.nx_top.specs.Refusals.{fault_text};
-ghost use Rattle.nx_top.specs.Top.{Ends, IsCaused, IsRefused, IsAccepted, status_of, text_of};
-ghost use Rattle.nx_top.specs.Report.{refusal, report_text};
+ghost use Rattle.nx_outside.specs.Outside.{Told};
+ghost use Rattle.nx_top.specs.Answers.{status_of, text_of};
+ghost use Rattle.nx_top.specs.CommandLine.{HasName, command_of, files_of, stops_at_long};
+ghost use Rattle.nx_top.specs.FilesRead.{IsShort};
+ghost use Rattle.nx_top.specs.Promises.{ContentsComeTo, Follows, IsCaused, Ends, EveryCommand, OfGates, OfRun, top_call};
+ghost use Rattle.nx_top.specs.Refusals.{refusal, fault_text};
 
-use crate::answer::{Answer, answer_to};
-use crate::fault::FileFault;
-use crate::put::put_all;
-use crate::report::{Report, refusal_line};
+use crate::answer::{Answer, stopped};
+use crate::command_line::{CommandWords, form};
+use crate::commands::gates::list_gates;
+use crate::commands::run::run_program;
+use crate::output::put_all;
+use crate::reading::read_files;
+use crate::refusal::{FileFault, refusal_line};
+use nx_base::{Bytes, OutOfMemory};
 use nx_outside::{Files, Sink};
 use std::alloc::Global;
-
-const DONE: u8 = 0;
 
 const USAGE: u8 = 2;
 
@@ -32,8 +32,52 @@ const NO_MEMORY: u8 = 12;
 
 const NOT_BUILT: u8 = 13;
 
-fn put_pieces<S: Sink>(out: &mut S, status: u8, pieces: &[&[u8]]) -> u8
-    ensures { Ends result status (flat_map (λ p. p.now) pieces.now) (S.told out.old) (S.told out.new) (S.faults out.old) (S.faults out.new) }
+// What the contents of a command's files come to: one arm for each command.
+fn examine(
+    alloc: Global,
+    command: &CommandWords<'_>,
+    contents: &[Option<Bytes>],
+) -> Result<Answer, OutOfMemory>
+    requires name { HasName (command_of command.now) }
+    requires each { length contents.now ≡ length (files_of (command_of command.now)) }
+    requires short { All IsShort contents.now }
+    requires go_on { stops_at_long (command_of command.now) ≡ true → All IsSome contents.now }
+    ensures { IfOk result (ContentsComeTo (command_of command.now) contents.now) }
+{
+    match command {
+        CommandWords::Run(form) => run_program(alloc, form, contents),
+        CommandWords::Gates(form) => list_gates(alloc, form, contents),
+    }
+}
+
+// Reads the files of a command, and examines them.
+fn follow<F: Files>(
+    alloc: Global,
+    command: &CommandWords<'_>,
+    files: &mut F,
+) -> Result<Answer, OutOfMemory>
+    requires { HasName (command_of command.now) }
+    ensures { IfOk result (Follows (command_of command.now) (F.told files.old) (F.told files.new) (F.faults files.old) (F.faults files.new)) }
+{
+    let names = command.files(alloc)?;
+    match read_files(alloc, names.as_slice(), command.stops_at_long(), files) {
+        Ok(contents) => examine(alloc, command, contents.as_slice()),
+        Err(stop) => stopped(alloc, stop),
+    }
+}
+
+// The answer to the words of a command line.
+fn answer_to<F: Files>(alloc: Global, words: &[&str], files: &mut F) -> Result<Answer, OutOfMemory>
+    ensures { IfOk result (IsCaused (map (λ w. w.now) words.now) (F.told files.old) (F.told files.new) (F.faults files.old) (F.faults files.new)) }
+{
+    match form(words) {
+        None => Ok(Answer::Usage),
+        Some(command) => follow(alloc, &command, files),
+    }
+}
+
+fn put_pieces<S: Sink>(out: &mut S, status: u8, pieces: &[Bytes]) -> u8
+    ensures { Ends result status (flat_map (λ p. p) pieces.now) (S.told out.old) (S.told out.new) (S.faults out.old) (S.faults out.new) }
 {
     match put_all(out, pieces) {
         Ok(()) => status,
@@ -41,17 +85,17 @@ fn put_pieces<S: Sink>(out: &mut S, status: u8, pieces: &[&[u8]]) -> u8
     }
 }
 
-fn put_three<S: Sink>(out: &mut S, status: u8, first: &[u8], second: &[u8], third: &[u8]) -> u8
-    ensures { Ends result status (first.now ++ second.now ++ third.now) (S.told out.old) (S.told out.new) (S.faults out.old) (S.faults out.new) }
+fn put_line<S: Sink>(out: &mut S, status: u8, line: Bytes) -> u8
+    ensures { Ends result status line (S.told out.old) (S.told out.new) (S.faults out.old) (S.faults out.new) }
 {
-    put_pieces(out, status, &[first, second, third])
+    put_pieces(out, status, &[line])
 }
 
 fn put_refusal<S: Sink>(alloc: Global, out: &mut S, status: u8, what: &[u8], name: &[u8]) -> u8
     ensures { Ends result status (refusal (what.now ++ name.now)) (S.told out.old) (S.told out.new) (S.faults out.old) (S.faults out.new) }
 {
     match refusal_line(alloc, what, name) {
-        Ok(text) => put_pieces(out, status, &[text.as_slice()]),
+        Ok(line) => put_line(out, status, line),
         Err(_) => NO_MEMORY,
     }
 }
@@ -71,26 +115,6 @@ fn put_fault<S: Sink>(alloc: Global, out: &mut S, fault: &FileFault) -> u8
     }
 }
 
-// The lines up to the console's bytes, these bytes, and the rest: three pieces, made before the first is put.
-#[tactic(auto, unfolding(crate::specs::Report::report_text))]
-fn put_report<S: Sink>(alloc: Global, out: &mut S, report: &Report) -> u8
-    ensures { Ends result 0 (report_text report.now) (S.told out.old) (S.told out.new) (S.faults out.old) (S.faults out.new) }
-{
-    let Ok(head) = report.head(alloc) else {
-        return NO_MEMORY;
-    };
-    let Ok(tail) = report.tail(alloc) else {
-        return NO_MEMORY;
-    };
-    put_three(
-        out,
-        DONE,
-        head.as_slice(),
-        report.console.as_slice(),
-        tail.as_slice(),
-    )
-}
-
 fn put_answer<S: Sink>(alloc: Global, out: &mut S, answer: &Answer) -> u8
     ensures { Ends result (status_of answer.now) (text_of answer.now) (S.told out.old) (S.told out.new) (S.faults out.old) (S.faults out.new) }
 {
@@ -104,42 +128,21 @@ fn put_answer<S: Sink>(alloc: Global, out: &mut S, answer: &Answer) -> u8
         Answer::NotBuilt(file) => {
             put_refusal(alloc, out, NOT_BUILT, b"not built ", file.as_slice())
         }
-        Answer::Listed(text) => put_pieces(out, DONE, &[text.as_slice()]),
-        Answer::Ran(report) => put_report(alloc, out, report),
+        Answer::Done { status, pieces } => put_pieces(out, *status, pieces.as_slice()),
     }
 }
 
-/// The top call. `run` reads the files that its words name, builds their program, runs it, and puts
-/// the report, in three pieces. `gates` reads a configuration and a call table, and puts the listing
-/// of the gates, in one piece. A refusal is one line.
+/// The top call. It reads the files that the words name, does what the command is for, and puts
+/// what it came to in pieces, which are all made before the first is put. A refusal is one line.
 ///
-/// It answers 0 where the report or the listing was put, 2 where the words have no form, 3 where a
-/// file has no reading, 9 where a file can't be read, 10 where a file is too long, 13 where a file of
-/// a run has not its form, 11 in place of any of these where a put failed, and 12 where memory ran
-/// out before the first put.
+/// It answers the status of the command, or 2 where the words have no form, 3 where a file has no
+/// reading, 9 where a file can't be read, 10 where a file is too long, 13 where a file of a run has
+/// not the form that is built so far, 11 in place of any of these where a put failed, and 12 where
+/// memory ran out before the first put.
 pub fn nxsim<F: Files, S: Sink>(alloc: Global, words: &[&str], files: &mut F, out: &mut S) -> u8
-    // Each answer with its cause, and what was put.
-    ensures answered { (result ≡ 12) ⊎ ((a : Answer) × IsCaused (map (λ w. w.now) words.now) (F.told files.old) (F.told files.new) (F.faults files.old) (F.faults files.new) a
-        × Ends result (status_of a) (text_of a) (S.told out.old) (S.told out.new) (S.faults out.old) (S.faults out.new)) }
-    ensures memory { result ≡ 12 → Wrote (S.told out.old) (S.told out.new) [] }
-
-    // When each status comes.
-    ensures usage { result ≡ 2 → form_of (map (λ w. w.now) words.now) ≡ None }
-    ensures no_form { form_of (map (λ w. w.now) words.now) ≡ None → (result ≡ 2) ⊎ (result ≡ 11) ⊎ (result ≡ 12) }
-    ensures no_reading { result ≡ 3 → (form : GatesForm) × (form_of (map (λ w. w.now) words.now) ≡ Some (Gates form)) × IsFaulty form (F.told files.old) }
-    ensures cannot_read { result ≡ 9 → Rose (F.faults files.old) (F.faults files.new) }
-    ensures too_long { result ≡ 10 → (form : GatesForm) × (file : List ℕ) × (form_of (map (λ w. w.now) words.now) ≡ Some (Gates form))
-        × StopsLong (gates_files form) file (F.told files.old) (F.told files.new) }
-    ensures not_built { result ≡ 13 → (form : RunForm) × (form_of (map (λ w. w.now) words.now) ≡ Some (Run form)) × IsRefused form (F.told files.old) }
-    ensures put_failed { result ≡ 11 → Rose (S.faults out.old) (S.faults out.new) }
-
-    // What the files come to, where they are told and none fails.
-    ensures listed { (form : GatesForm) (t : Told) (a : Answer) → F.told files.old ≡ Some t → form_of (map (λ w. w.now) words.now) ≡ Some (Gates form) → TheyComeTo form t a
-        → ¬ Rose (F.faults files.old) (F.faults files.new) → Ends result (status_of a) (text_of a) (S.told out.old) (S.told out.new) (S.faults out.old) (S.faults out.new) }
-    ensures refused { (form : RunForm) (t : Told) → F.told files.old ≡ Some t → form_of (map (λ w. w.now) words.now) ≡ Some (Run form) → IsRefused form (Some t)
-        → ¬ Rose (F.faults files.old) (F.faults files.new) → (result ≡ 13) ⊎ (result ≡ 11) ⊎ (result ≡ 12) }
-    ensures accepted { IsAccepted (map (λ w. w.now) words.now) (F.told files.old) → ¬ Rose (F.faults files.old) (F.faults files.new)
-        → ¬ Rose (S.faults out.old) (S.faults out.new) → (result ≡ 0) ⊎ (result ≡ 12) }
+    ensures every_command { EveryCommand (top_call (map (λ w. w.now) words.now) result (F.told files.old) (F.told files.new) (F.faults files.old) (F.faults files.new) (S.told out.old) (S.told out.new) (S.faults out.old) (S.faults out.new)) }
+    ensures run { OfRun (top_call (map (λ w. w.now) words.now) result (F.told files.old) (F.told files.new) (F.faults files.old) (F.faults files.new) (S.told out.old) (S.told out.new) (S.faults out.old) (S.faults out.new)) }
+    ensures gates { OfGates (top_call (map (λ w. w.now) words.now) result (F.told files.old) (F.told files.new) (F.faults files.old) (F.faults files.new) (S.told out.old) (S.told out.new) (S.faults out.old) (S.faults out.new)) }
 {
     match answer_to(alloc, words, files) {
         Ok(answer) => put_answer(alloc, out, &answer),

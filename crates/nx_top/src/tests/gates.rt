@@ -1,6 +1,7 @@
 use super::standard::{STANDARD_LISTING, STANDARD_TABLE};
 use super::{CALLS, CONFIG, entry, sink};
 use crate::nxsim;
+use nx_base::OutOfMemory;
 use nx_outside::MemFiles;
 use std::alloc::{AllocError, Global};
 use std::test::Fail;
@@ -36,7 +37,7 @@ fn comes_to(
     calls: &str,
     status: u8,
     text: &str,
-) -> Result<bool, AllocError> {
+) -> Result<bool, OutOfMemory> {
     let mut files = gates_files(alloc, config, calls)?;
     let mut out = sink(alloc, &[], 0)?;
     let answer = nxsim(alloc, &GATES, &mut files, &mut out);

@@ -1,6 +1,0 @@
-use Rattle.std.proofs.Common.{◌≡◌, ◌++◌, drop}
-use Rattle.nx_top.specs.Compiled.{literals}
-use Rattle.nx_top.proofs.compile.put_literals.Given as goal
-
-abbrev pub invariant-loop-string : goal.invariant-loop-string
-invariant-loop-string l = l.text ++ literals (drop l.string-index l.strings) ≡ l.fn.text ++ literals l.strings

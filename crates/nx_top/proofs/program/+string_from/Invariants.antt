@@ -1,4 +1,0 @@
-use Rattle.nx_top.proofs.program.+string_from.Given as goal
-
-abbrev pub decreases-string_from : goal.decreases-string_from
-decreases-string_from l = l.left

@@ -1,0 +1,2 @@
+pub mod GatesCommand
+pub mod RunCommand

@@ -1,0 +1,71 @@
+-- A program's run: the calls that are still to come, and what was written so far. nx_system will take its place.
+use Rattle.std.specs.Prelude.{◌≡◌, ℕ, ◌+◌, ◌^◌, ◌≤◌, List, [], ◌∷◌, ◌++◌, length, Option, Some, None, Ok}
+use Rattle.std.specs.List.{flat_map}
+use Rattle.nx_base.specs.declared.regs.Regs.{Regs}
+use Rattle.nx_top.specs.declared.first.guest.CallOutcome.{CallOutcome}
+use Rattle.nx_top.specs.declared.first.guest.CallOutcome.TheVariants.{Wrote, Ended, Stray}
+use Rattle.nx_top.specs.declared.first.guest.GuestRun.{GuestRun}
+use Rattle.nx_base.specs.Views.{View, load_bytes}
+use Rattle.nx_top.specs.first.Layout.{fuel}
+use Rattle.nx_top.specs.first.BootedRuns.{Makes, calls_of}
+
+-- a run that writes these strings, which stand at these addresses, and ends with a status after so many instructions
+pub record ExpectedRun : Type 0 where
+  pub strings : List (List ℕ)
+  pub places : List ℕ
+  pub status : ℕ
+  pub instructions : ℕ
+
+abbrev pub joined : List (List ℕ) → List ℕ
+joined strings = flat_map (λ s. s) strings
+
+-- a string lies in a view at an address, byte by byte
+abbrev pub LiesAt : View → List ℕ → ℕ → Type 0
+LiesAt v [] at = Unit {0}
+LiesAt v (b ∷ bs) at = (load_bytes v at 1 ≡ Ok b) × LiesAt v bs (at + 1)
+
+-- each string lies at its address, and ends below 2^32
+abbrev pub LieAt : View → List (List ℕ) → List ℕ → Type 0
+LieAt v [] [] = Unit {0}
+LieAt v (string ∷ strings) (at ∷ places) = (at + length string ≤ 2 ^ 32) × LiesAt v string at × LieAt v strings places
+LieAt v _ _ = ⊥
+
+-- what remains of a planned run, once some of it was made
+pub record Remains (plan : ExpectedRun) (r : Regs) (v : View) (console : List ℕ) (writes used : ℕ) : Type 0 where
+  pub strings : List (List ℕ)
+  pub places : List ℕ
+  pub instructions : ℕ
+  pub makes : Makes (calls_of strings places plan.status) r v instructions
+  pub lie : LieAt v strings places
+  pub total : used + instructions ≡ plan.instructions
+  pub written : console ++ joined strings ≡ joined plan.strings
+  pub counted : writes + length strings ≡ length plan.strings
+
+-- a planned run was made whole
+pub record IsDone (plan : ExpectedRun) (status : ℕ) (console : List ℕ) (writes used : ℕ) : Type 0 where
+  pub ended : status ≡ plan.status
+  pub written : console ≡ joined plan.strings
+  pub counted : writes ≡ length plan.strings
+  pub made : used ≡ plan.instructions
+
+-- what an answer means for a planned run
+abbrev pub AfterTurn : ExpectedRun → CallOutcome → Regs → View → List ℕ → ℕ → ℕ → Type 0
+AfterTurn plan Wrote r v console writes used = Remains plan r v console writes used
+AfterTurn plan (Ended status) r v console writes used = IsDone plan status console writes used
+AfterTurn plan Stray r v console writes used = ⊥
+
+-- a plan whose calls come within a limit
+pub record IsWithin (plan : ExpectedRun) (limit : ℕ) : Type 0 where
+  pub fuel : plan.instructions ≤ limit
+  pub small : plan.status ≤ 255
+
+-- the words in a view follow a plan from these registers on
+pub record IsExpectedFrom (plan : ExpectedRun) (r : Regs) (v : View) : Type 0 where
+  pub within : IsWithin plan fuel
+  pub makes : Makes (calls_of plan.strings plan.places plan.status) r v plan.instructions
+  pub lie : LieAt v plan.strings plan.places
+
+-- a run that went as planned
+abbrev pub RanAs : ExpectedRun → Option GuestRun → Type 0
+RanAs plan None = ⊥
+RanAs plan (Some run) = IsDone plan run.status run.console run.writes run.instructions

@@ -1,0 +1,159 @@
+// nx_ctok will take its place.
+
+ghost use Rattle.std.specs.Prelude.{◌≡◌, map};
+ghost use Rattle.std.specs.List.{list_all};
+ghost use Rattle.std.specs.Option.{option_map};
+ghost use Rattle.nx_top.specs.first.Program.{is_blank as is_blank_value, begins_word as begins_word_text, ends_word as ends_word_text};
+ghost use Rattle.nx_top.specs.first.ProgramReading as read;
+
+use nx_base::is_word_byte;
+
+fn is_blank(byte: u8) -> bool
+    ensures { result ≡ is_blank_value byte }
+{
+    byte == b' ' || byte == b'\n'
+}
+
+fn behind_blanks(bytes: &[u8]) -> &[u8]
+    ensures { result.now ≡ read.behind_blanks bytes.now }
+{
+    let mut rest = bytes;
+    while let [first, tail @ ..] = rest {
+        if !is_blank(*first) {
+            return rest;
+        }
+        rest = tail;
+    }
+    rest
+}
+
+fn begins_blank(bytes: &[u8]) -> bool
+    ensures { result ≡ read.begins_blank bytes.now }
+{
+    match bytes {
+        [first, ..] => is_blank(*first),
+        _ => false,
+    }
+}
+
+fn begins_word(bytes: &[u8]) -> bool
+    ensures { result ≡ begins_word_text bytes.now }
+{
+    match bytes {
+        [first, ..] => is_word_byte(*first),
+        _ => false,
+    }
+}
+
+fn ends_word(bytes: &[u8]) -> bool
+    ensures { result ≡ ends_word_text bytes.now }
+{
+    match bytes {
+        [.., last] => is_word_byte(*last),
+        _ => false,
+    }
+}
+
+#[tactic(auto, unfolding(crate::specs::first::ProgramReading::behind_gap))]
+fn behind_gap(bytes: &[u8], is_wanted: bool) -> Option<&[u8]>
+    ensures { option_map (λ s. s.now) result ≡ read.behind_gap is_wanted bytes.now }
+{
+    if is_wanted && !begins_blank(bytes) {
+        return None;
+    }
+    Some(behind_blanks(bytes))
+}
+
+#[tactic(auto, unfolding(crate::specs::first::ProgramReading::behind_text))]
+fn behind_text<'a>(bytes: &'a [u8], text: &[u8]) -> Option<&'a [u8]>
+    ensures { option_map (λ s. s.now) result ≡ read.behind_text text.now bytes.now }
+{
+    if !bytes.starts_with(text) {
+        return None;
+    }
+    Some(&bytes[text.len()..])
+}
+
+/// The bytes behind a token and the blanks in front of it, if it stands here. Behind a word a token
+/// that begins as a word has one blank in front at least.
+#[tactic(auto, unfolding(crate::specs::first::ProgramReading::behind_token))]
+pub fn behind_token<'a>(bytes: &'a [u8], is_word: bool, token: &[u8]) -> Option<&'a [u8]>
+    ensures { option_map (λ s. s.now) result ≡ read.behind_token is_word token.now bytes.now }
+{
+    let rest = behind_gap(bytes, is_word && begins_word(token))?;
+    behind_text(rest, token)
+}
+
+/// The bytes behind several tokens, as `behind_token` has them one by one.
+#[tactic(auto, unfolding(crate::specs::first::ProgramReading::behind_tokens))]
+pub fn behind_tokens<'a>(bytes: &'a [u8], is_word: bool, tokens: &[&str]) -> Option<&'a [u8]>
+    ensures { option_map (λ s. s.now) result ≡ read.behind_tokens is_word (map (λ t. t.now) tokens.now) bytes.now }
+{
+    match tokens {
+        [token, tokens @ ..] => {
+            let token = token.as_bytes();
+            let rest = behind_token(bytes, is_word, token)?;
+            behind_tokens(rest, ends_word(token), tokens)
+        }
+        _ => Some(bytes),
+    }
+}
+
+// The number that goes on with the digits here, if it is at most 255, and the bytes behind it.
+#[tactic(auto, unfolding(crate::specs::first::ProgramReading::number_from))]
+fn number_from(number: u8, bytes: &[u8]) -> Option<(u8, &[u8])>
+    ensures { option_map (λ x. (x.0, x.1.now)) result ≡ read.number_from number bytes.now }
+{
+    match bytes {
+        [first @ b'0'..=b'9', rest @ ..] => {
+            let next = u16::from(number) * 10 + u16::from(*first - b'0');
+            if next > 255 {
+                return None;
+            }
+            number_from(next as u8, rest)
+        }
+        _ => Some((number, bytes)),
+    }
+}
+
+fn begins_digit(bytes: &[u8]) -> bool
+    ensures { result ≡ read.begins_digit bytes.now }
+{
+    match bytes {
+        [first, ..] => first.is_ascii_digit(),
+        _ => false,
+    }
+}
+
+#[tactic(auto, unfolding(crate::specs::first::ProgramReading::digits_at))]
+fn digits_at(bytes: &[u8]) -> Option<(u8, &[u8])>
+    ensures { option_map (λ x. (x.0, x.1.now)) result ≡ read.digits_at bytes.now }
+{
+    match bytes {
+        [b'0', rest @ ..] => {
+            if begins_digit(rest) {
+                return None;
+            }
+            Some((0, rest))
+        }
+        [first @ b'1'..=b'9', rest @ ..] => number_from(*first - b'0', rest),
+        _ => None,
+    }
+}
+
+/// A decimal number of 0 to 255 with no zero in front, and the bytes behind it. Behind a word it has
+/// one blank in front at least.
+#[tactic(auto, unfolding(crate::specs::first::ProgramReading::number_at))]
+pub fn number_at(bytes: &[u8], is_word: bool) -> Option<(u8, &[u8])>
+    ensures { option_map (λ x. (x.0, x.1.now)) result ≡ read.number_at is_word bytes.now }
+{
+    let rest = behind_gap(bytes, is_word)?;
+    digits_at(rest)
+}
+
+/// Whether all bytes are spaces and newlines.
+pub fn are_blanks(bytes: &[u8]) -> bool
+    ensures { result ≡ list_all is_blank_value bytes.now }
+{
+    bytes.iter().all(|byte| is_blank(*byte))
+}
