@@ -5,4 +5,5 @@ pub mod Listings
 pub mod Following
 pub mod Putting
 pub mod Runs
+pub mod Statuses
 pub mod first_path

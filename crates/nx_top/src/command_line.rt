@@ -8,17 +8,24 @@ use std::alloc::Global;
 /// The words of a run: the names of its four files, and the name of its program.
 #[derive(Clone, Copy, Debug)]
 pub struct RunWords<'a> {
+    /// The file of the configuration.
     pub config: &'a str,
+    /// The file of the call table.
     pub calls: &'a str,
+    /// The file of the script.
     pub script: &'a str,
+    /// The name of the program, of 1 to 32 bytes.
     pub name: &'a str,
+    /// The file of the program.
     pub file: &'a str,
 }
 
 /// The words of a listing of gates: the names of its two files.
 #[derive(Clone, Copy, Debug)]
 pub struct GatesWords<'a> {
+    /// The file of the configuration.
     pub config: &'a str,
+    /// The file of the call table.
     pub calls: &'a str,
 }
 
@@ -129,7 +136,7 @@ fn gates_words<'a>(words: &[&'a str]) -> Option<GatesWords<'a>>
     Some(GatesWords { config, calls })
 }
 
-/// The form of the words of a command line, without the program's own word in front:
+/// The form of the words of a command line, without the program's own word:
 /// `run CONFIG CALLS SCRIPT NAME=FILE` or `gates CONFIG CALLS`. Any other words have none.
 pub fn form<'a>(words: &[&'a str]) -> Option<CommandWords<'a>>
     ensures { option_map command_of result ≡ form_of (map (λ w. w.now) words.now) }

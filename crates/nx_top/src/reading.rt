@@ -8,7 +8,9 @@ use std::alloc::Global;
 /// Why the files were not read, and at which.
 #[derive(Drop)]
 pub struct ReadStop<'a> {
+    /// What happened there.
     pub why: FileStop,
+    /// The file's name, as it was given.
     pub name: &'a str,
 }
 

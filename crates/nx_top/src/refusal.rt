@@ -32,6 +32,7 @@ pub struct FileFault {
     pub file: Bytes,
     /// The line, or of a call table the record, counted from 1.
     pub line: u32,
+    /// What is wrong there.
     pub kind: FaultKind,
 }
 

@@ -57,6 +57,7 @@ impl RunStop {
 /// A group that ended.
 #[derive(Debug, Drop)]
 pub struct EndedGroup {
+    /// Its number: 1 is the shell, 2 the first program.
     pub number: u32,
     /// The name of its program.
     pub name: Bytes,
@@ -67,6 +68,7 @@ pub struct EndedGroup {
 /// What a run came to.
 #[derive(Debug, Drop)]
 pub struct Report {
+    /// The build that ran.
     pub build: Build,
     /// The bytes of the image that ran.
     pub image: Bytes,
@@ -74,6 +76,7 @@ pub struct Report {
     pub shown: bool,
     /// The bytes that were written to the console.
     pub console: Bytes,
+    /// Why the run stopped.
     pub stop: RunStop,
     /// How many calls the shell and the programs made.
     pub calls: u64,

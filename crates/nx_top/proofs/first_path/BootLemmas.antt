@@ -9,7 +9,7 @@ use Rattle.nx_ram.specs.declared.prog_image.ProgImage.{ProgImage}
 use Rattle.nx_top.specs.first.Layout.{ram_start, ram_bytes}
 use Rattle.nx_top.specs.first.BootedRuns.{IsBooted}
 
--- each byte of zeros is 0, and so is what is read behind them
+-- each byte of zeros is 0, and so is what is read after them
 zero_byte : (n i : ℕ) → slice_index (replicate n 0) i ≡ 0
 zero_byte n i =
     let l = length-replicate {A = ℕ} n 0 in

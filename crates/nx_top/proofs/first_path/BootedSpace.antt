@@ -23,7 +23,7 @@ use Rattle.nx_top.specs.first.IsCompiled.{IsLaidOut}
 use Rattle.nx_top.specs.first.BootedRuns.{flat_view, IsBooted, start_regs}
 use Rattle.nx_top.proofs.first_path.BootLemmas.{booted_zeroed}
 
--- a program without data, whose slot's stack lies behind its text
+-- a program without data, whose slot's stack lies after its text
 pub record HasRoom (image : ProgImage) (s : Sharing) (place slot : ℕ) : Type 0 where
   pub whole : s.size ≡ length s.ram
   pub fits : FitsRam s.size s.programs s.stacks_at s.stack s.threads
@@ -31,7 +31,7 @@ pub record HasRoom (image : ProgImage) (s : Sharing) (place slot : ℕ) : Type 0
   pub program : slice_index_or s.programs place no_program ≡ image
   pub no_data : image.init ≡ []
   pub within : slot < s.threads
-  pub behind : image.text_at + length image.text ≤ s.stacks_at + slot * s.stack
+  pub after : image.text_at + length image.text ≤ s.stacks_at + slot * s.stack
 
 -- what a group of a flat space sees is the whole RAM
 pub view_flat : (s : Sharing) → s.size ≡ length s.ram → IsEntered (flat_world s) → view_in (flat_world s) ≡ flat_view s.ram
@@ -64,7 +64,7 @@ started_flat image s number place slot fresh w0 w1 r lawful new start =
 booted_stacked : (image : ProgImage) (s : Sharing) (place slot : ℕ) → IsBooted image s.ram → HasRoom image s place slot → IsBooted image (with_stack_zeroed s s.ram slot)
 booted_stacked image s place slot b r =
     let low = slot_inside s.size s.stacks_at s.stack s.threads slot r.fits.stacks r.within in
-    booted_zeroed image s.ram b (s.stacks_at + slot * s.stack - ram_start) s.stack (omega (arith, low.0, low.1, r.whole)) (inr (omega (arith, r.behind, b.from)))
+    booted_zeroed image s.ram b (s.stacks_at + slot * s.stack - ram_start) s.stack (omega (arith, low.0, low.1, r.whole)) (inr (omega (arith, r.after, b.from)))
 
 -- no byte of the RAM is lost
 stacked_whole : (image : ProgImage) (s : Sharing) (place slot : ℕ) → HasRoom image s place slot → s.size ≡ length (with_stack_zeroed s s.ram slot)
@@ -126,5 +126,5 @@ room_alone image name s laid short size whole one low e two few =
       program = p;
       no_data = laid.no_data;
       within = two;
-      behind = omega (arith, low, e);
+      after = omega (arith, low, e);
     }

@@ -27,7 +27,7 @@ proxy_bytes gate slice items is s i =
     ap (flat_map (λ w. to_le 4 w)) (s ∙ i) ∙ words_bytes (proxy_of gate.number (length gate.kinds.items))
     ∙ ap (λ n. code_bytes (proxy_of n (length gate.kinds.items))) is.number ∙ ap (λ k. code_bytes (proxy_of 16 k)) is.three
 
--- one write behind the others
+-- one write after the others
 pub writes_more : (strings : List (List ℕ)) (old new all : List ℕ) (i here literal next : ℕ) (d : List ℕ) → i < length strings
     → new ≡ old ++ code_bytes (write_code here literal (length (get_or strings i d))) → next ≡ literal + length (get_or strings i d) + 1
     → old ++ code_bytes (writes_code here literal (drop i strings)) ≡ all → new ++ code_bytes (writes_code (here + 20) next (drop (i + 1) strings)) ≡ all
@@ -42,7 +42,7 @@ writes_more strings old new all i here literal next d lt e n h =
     ∙ ap (λ v. old ++ v) (sym (ap code_bytes first ∙ code_bytes-append (write_code here literal (length s)) (writes_code (here + 20) next (drop (i + 1) strings))))
     ∙ h
 
--- behind the last
+-- after the last
 pub writes_done : (strings : List (List ℕ)) (old all : List ℕ) (i here literal : ℕ) → length strings ≤ i → old ++ code_bytes (writes_code here literal (drop i strings)) ≡ all → old ≡ all
 unfolding writes_code code_bytes
 writes_done strings old all i here literal le h = sym (append-nil old) ∙ ap (λ l. old ++ code_bytes (writes_code here literal l)) (sym (drop_all i strings le)) ∙ h

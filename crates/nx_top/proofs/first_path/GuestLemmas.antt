@@ -43,7 +43,7 @@ ends_in m n left h r r' r1 v v' v1 le e c =
     let l : left ≡ n - m = ap (λ (x : End). x.left) f in
     record { halt = ap (λ (x : End). x.halt) f; regs = ap (λ (x : End). x.regs) f; view = ap (λ (x : End). x.view) f; rest = omega arith }
 
--- the next call of a planned run: a write, with what remains behind it, or the end
+-- the next call of a planned run: a write, with what remains after it, or the end
 pub data Next (plan : ExpectedRun) (r : Regs) (v : View) (console : List ℕ) (writes used : ℕ) : Type 0 where
   Writes : (string : List ℕ) (at : ℕ) → reg r 10 ≡ 16 → reg r 11 ≡ 1 → reg r 12 ≡ at → reg r 13 ≡ length string → at + length string ≤ 2 ^ 32 → LiesAt v string at
       → Remains plan (with_reg r 10 (length string)) v (console ++ string) (writes + 1) used → Next plan r v console writes used

@@ -11,7 +11,7 @@ use Rattle.nx_top.specs.first.Program.{Program}
 use Rattle.nx_top.specs.first.Compiled.{addi, stub, proxies, proxy_at, main_at, literals_at, writes_code, main_code, insts_of, code_bytes, literals, places_from}
 use Rattle.nx_top.specs.first.BootedRuns.{flat_view, IsBooted, start_regs, Makes, calls_of, HasCode, Keeps}
 use Rattle.nx_top.specs.first.IsCompiled.{FitsText, IsCompiled}
-use Rattle.nx_top.proofs.first_path.Sizes.{main_small, literals_small, literals_behind, text_aligned}
+use Rattle.nx_top.proofs.first_path.Sizes.{main_small, literals_small, literals_after, text_aligned}
 use Rattle.nx_top.proofs.first_path.Ranges.{insts_in_range}
 use Rattle.nx_top.proofs.first_path.Places.{text_is, zeros_of, booted_here, has_code, stubs_split, stand_at}
 use Rattle.nx_top.proofs.first_path.Writes.{main_of, end_code, makes_more, writes_made}
@@ -97,6 +97,6 @@ keeps p image f c = record {
   second_stub = second_stub p image c;
   aligned = ap (λ t. length t % 16) c.text ∙ text_aligned p;
   places = places_from (literals_at p) p.writes;
-  strings = stand_at image p.writes (code_bytes (insts_of p)) (zeros_of p) (literals_at p) (c.text ∙ text_is p) (literals_behind p ∙ ap (λ n. n + length (code_bytes (insts_of p))) (sym c.text_at));
+  strings = stand_at image p.writes (code_bytes (insts_of p)) (zeros_of p) (literals_at p) (c.text ∙ text_is p) (literals_after p ∙ ap (λ n. n + length (code_bytes (insts_of p))) (sym c.text_at));
   runs = λ ram b. runs p image ram f c b;
 }

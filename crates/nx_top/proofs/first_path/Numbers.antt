@@ -138,7 +138,7 @@ digits_whole n rest small e = elim (sizes n) [
   ]
 ]
 
--- a number's text begins and ends a word, and has no blank in front
+-- a number's text begins and ends a word, and has no blank before it
 pub record Digits (n : ℕ) : Type 0 where
   pub begins : begins_word (decimal n) ≡ true
   pub ends : ends_word (decimal n) ≡ true

@@ -14,7 +14,7 @@ unfolding literals
 literals-append [] b = refl
 literals-append (s ∷ a) b = ap (λ l. (s ++ 0 ∷ []) ++ l) (literals-append a b) ∙ sym (append_assoc (s ++ 0 ∷ []) (literals a) (literals b))
 
--- writes behind others begin behind their code, and their literals behind those of the others
+-- writes after others begin after their code, and their literals after those of the others
 pub writes_code-append : (here literal : ℕ) (a b : List (List ℕ)) → writes_code here literal (a ++ b) ≡ writes_code here literal a ++ writes_code (here + 20 * length a) (literal + length (literals a)) b
 unfolding writes_code literals
 writes_code-append here literal [] b =

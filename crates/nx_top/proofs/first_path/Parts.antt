@@ -18,8 +18,8 @@ get_bytes_is bs at (suc n) h =
 -- a RAM with a text between other bytes
 pub record Parted (image : ProgImage) (ram : List ℕ) : Type 0 where
   pub before : List ℕ
-  pub behind : List ℕ
-  pub ram_is : ram ≡ before ++ image.text ++ behind
+  pub after : List ℕ
+  pub ram_is : ram ≡ before ++ image.text ++ after
   pub text_there : ram_start + length before ≡ image.text_at
   pub whole : length ram ≡ ram_bytes
 
@@ -36,7 +36,7 @@ parted image ram b =
     let t : take n (drop k ram) ≡ image.text = sym (get_bytes_is ram k n b.to) ∙ b.text in
     record {
       before = take k ram;
-      behind = drop (k + n) ram;
+      after = drop (k + n) ram;
       ram_is = split ram k n ∙ ap (λ l. take k ram ++ l ++ drop (k + n) ram) t;
       text_there = omega (arith, length-take k ram, b.from, b.to);
       whole = b.whole;

@@ -65,22 +65,22 @@ booted_here p image ram c h booted =
     let b = parted image ram booted in
     let code = code_bytes (insts_of p) in
     let tail = literals p.writes ++ zeros_of p in
-    let e : ram ≡ b.before ++ (code ++ (tail ++ b.behind)) =
+    let e : ram ≡ b.before ++ (code ++ (tail ++ b.after)) =
     b.ram_is
-    ∙ ap (λ t. b.before ++ t ++ b.behind) (c.text ∙ text_is p)
-    ∙ append_assoc b.before (code ++ tail) b.behind
-    ∙ ap (λ t. b.before ++ t) (append_assoc code tail b.behind) in
+    ∙ ap (λ t. b.before ++ t ++ b.after) (c.text ∙ text_is p)
+    ∙ append_assoc b.before (code ++ tail) b.after
+    ∙ ap (λ t. b.before ++ t) (append_assoc code tail b.after) in
     let at : text_start ≡ ram_start + length b.before = sym (b.text_there ∙ c.text_at) in
-    subst (λ l. AreHere (flat_view l) text_start (insts_of p)) (sym e) (are_here b.before (insts_of p) (tail ++ b.behind) text_start at h)
+    subst (λ l. AreHere (flat_view l) text_start (insts_of p)) (sym e) (are_here b.before (insts_of p) (tail ++ b.after) text_start at h)
 
--- instructions stand in a text behind others
+-- instructions stand in a text after others
 pub has_code : (image : ProgImage) (front insts : List Inst) (back : List ℕ) (at : ℕ) → image.text ≡ code_bytes front ++ (code_bytes insts ++ back) → at ≡ image.text_at + 4 * length front → HasCode image insts at
 has_code image front insts back at e h =
     let l = length-code_bytes front in
     let q : at - image.text_at ≡ length (code_bytes front) = omega arith in
     record { from = omega arith; bytes = ap (λ t. get_bytes t (at - image.text_at) (length (code_bytes insts))) e ∙ get_bytes-between (code_bytes front) (code_bytes insts) back (at - image.text_at) (length (code_bytes insts)) q refl }
 
--- the first stub and the second, and what is behind them
+-- the first stub and the second, and what is after them
 pub stubs_split : (p : Program) → code_bytes (insts_of p) ≡ code_bytes (stub 1) ++ (code_bytes (stub 2) ++ code_bytes (proxies p.writes ++ main_code p))
 unfolding insts_of
 stubs_split p =

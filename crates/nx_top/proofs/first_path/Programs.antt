@@ -5,13 +5,13 @@ use Rattle.std.proofs.lemmas.Bool.{eqb-true}
 use Rattle.std.proofs.lemmas.List.Elements.{All-from_recursion}
 use Rattle.nx_top.specs.first.Program.{Program, is_blank, begins_word, quoted, write_tokens, tokens_of, Spelled, IsString, IsProgram}
 use Rattle.nx_top.specs.first.Program.Spelled.{Done}
-use Rattle.nx_top.specs.first.ProgramReading.{◌>>=◌, begins_digit, is_digit, behind_gap, behind_token, behind_tokens, digits_at, number_at, string_at, write_end, write_at, end_of, end_or, body_from, reading}
+use Rattle.nx_top.specs.first.ProgramReading.{◌>>=◌, begins_digit, is_digit, after_gap, after_token, after_tokens, digits_at, number_at, string_at, write_end, write_at, end_of, end_or, body_from, reading}
 use Rattle.nx_top.proofs.first_path.Choices.{bind_some, guard_some, both, told}
 use Rattle.nx_top.proofs.first_path.TokenReading.{Gap, gap_sound, gap_whole, token_gap, with_token, spelt, tokens_sound}
 use Rattle.nx_top.proofs.first_path.Numbers.{digits_sound, digits_whole, digits_of}
 use Rattle.nx_top.proofs.first_path.Strings.{string_sound, quoted_ends}
 
--- numbers behind a gap
+-- numbers after a gap
 
 pub record Numbered (word : Bool) (bytes : List ℕ) (x : ℕ × List ℕ) : Type 0 where
   pub gap : Gap (word && begins_word (decimal x.0)) bytes (decimal x.0 ++ x.1)
@@ -28,7 +28,7 @@ wanted false b w e = absurd (cc)
 pub number_sound : (word : Bool) (bytes : List ℕ) (x : ℕ × List ℕ) → number_at word bytes ≡ Some x → Numbered word bytes x
 unfolding number_at
 number_sound word bytes x e =
-    let k = bind_some (behind_gap word bytes) digits_at x e in
+    let k = bind_some (after_gap word bytes) digits_at x e in
     let g = gap_sound word bytes k.0 k.1 in
     let d = digits_sound k.0 x k.2 in
     record {
@@ -40,7 +40,7 @@ pub with_number : (word : Bool) (bytes : List ℕ) (x : ℕ × List ℕ) (tokens
 with_number word bytes x tokens n s =
     with_token word (decimal x.0) bytes x.1 tokens n.gap (subst (λ (w : Bool). Spelled w tokens x.1) (sym (digits_of x.0 n.small).ends) s)
 
--- a number is read, and what is behind it is spelled so
+-- a number is read, and what is after it is spelled so
 pub record Counted (word : Bool) (n : ℕ) (others : List (List ℕ)) (bytes : List ℕ) : Type 0 where
   pub rest : List ℕ
   pub reads : number_at word bytes ≡ Some (n, rest)
@@ -53,14 +53,14 @@ number_whole word n others bytes small apart s =
     let t = spelt word (decimal n) others bytes s in
     let more : Spelled true others t.rest = subst (λ (w : Bool). Spelled w others t.rest) d.ends t.more in
     let gap : word ≡ true → t.blanks ≢ [] = λ w. t.gap (wanted word (begins_word (decimal n)) w d.begins) in
-    let opens : behind_gap word bytes ≡ Some (decimal n ++ t.rest) = ap (behind_gap word) t.is ∙ gap_whole word t.blanks (decimal n ++ t.rest) t.all gap (d.plain t.rest) in
+    let opens : after_gap word bytes ≡ Some (decimal n ++ t.rest) = ap (after_gap word) t.is ∙ gap_whole word t.blanks (decimal n ++ t.rest) t.all gap (d.plain t.rest) in
     record {
       rest = t.rest;
       reads = ap (λ o. o >>= digits_at) opens ∙ digits_whole n t.rest small (apart t.rest more);
       more = more;
     }
 
--- the tokens of a write are those in front of its string, and those behind it
+-- the tokens of a write are those before its string, and those after it
 
 blank_digit : (b : ℕ) → is_blank b ≡ true → is_digit b ≡ false
 blank_digit b e = elim (told (b == 32)) [ inl k ↦ ap is_digit (eqb-true b 32 k) | inr k ↦ ap is_digit (eqb-true b 10 (subst (λ (a : Bool). (a || (b == 10)) ≡ true) k e)) ]
@@ -75,9 +75,9 @@ apart_tokens token tokens bytes h s = let t = spelt true token tokens bytes s in
 pub write_end_sound : (count : ℕ) (bytes rest : List ℕ) (more : List (List ℕ)) → write_end count bytes ≡ Some rest → Spelled false more rest → Spelled false (codes "," ∷ decimal count ∷ codes ")" ∷ codes ";" ∷ more) bytes
 unfolding write_end
 write_end_sound count bytes rest more e s =
-    let a = bind_some (behind_tokens false (codes "," ∷ []) bytes) (λ r. number_at false r >>= λ n. behind_tokens true (codes ")" ∷ codes ";" ∷ []) n.1 >>= λ l. cond (n.0 == count) (Some l) None) rest e in
-    let b = bind_some (number_at false a.0) (λ n. behind_tokens true (codes ")" ∷ codes ";" ∷ []) n.1 >>= λ l. cond (n.0 == count) (Some l) None) rest a.2 in
-    let d = bind_some (behind_tokens true (codes ")" ∷ codes ";" ∷ []) b.0.1) (λ l. cond (b.0.0 == count) (Some l) None) rest b.2 in
+    let a = bind_some (after_tokens false (codes "," ∷ []) bytes) (λ r. number_at false r >>= λ n. after_tokens true (codes ")" ∷ codes ";" ∷ []) n.1 >>= λ l. cond (n.0 == count) (Some l) None) rest e in
+    let b = bind_some (number_at false a.0) (λ n. after_tokens true (codes ")" ∷ codes ";" ∷ []) n.1 >>= λ l. cond (n.0 == count) (Some l) None) rest a.2 in
+    let d = bind_some (after_tokens true (codes ")" ∷ codes ";" ∷ []) b.0.1) (λ l. cond (b.0.0 == count) (Some l) None) rest b.2 in
     let g = guard_some (b.0.0 == count) (Some d.0) rest d.2 in
     let same : d.0 ≡ rest = cc in
     let n : b.0.0 ≡ count = eqb-true b.0.0 count g.0 in
@@ -95,7 +95,7 @@ pub record Written (bytes : List ℕ) (x : List ℕ × List ℕ) : Type 0 where
 pub write_sound : (bytes : List ℕ) (x : List ℕ × List ℕ) → write_at bytes ≡ Some x → Written bytes x
 unfolding write_at write_tokens
 write_sound bytes x e =
-    let a = bind_some (behind_tokens false (codes "write" ∷ codes "(" ∷ codes "1" ∷ codes "," ∷ []) bytes) (λ r. string_at r >>= λ s. write_end (length s.0) s.1 >>= λ l. Some (s.0, l)) x e in
+    let a = bind_some (after_tokens false (codes "write" ∷ codes "(" ∷ codes "1" ∷ codes "," ∷ []) bytes) (λ r. string_at r >>= λ s. write_end (length s.0) s.1 >>= λ l. Some (s.0, l)) x e in
     let b = bind_some (string_at a.0) (λ s. write_end (length s.0) s.1 >>= λ l. Some (s.0, l)) x a.2 in
     let d = bind_some (write_end (length b.0.0) b.0.1) (λ l. Some (b.0.0, l)) x b.2 in
     let string : b.0.0 ≡ x.0 = cc in
@@ -133,8 +133,8 @@ record Ended (writes : List (List ℕ)) (bytes : List ℕ) (p : Program) : Type 
 end_sound : (writes : List (List ℕ)) (bytes : List ℕ) (p : Program) → end_of writes bytes ≡ Some p → Ended writes bytes p
 unfolding end_of
 end_sound writes bytes p e =
-    let a = bind_some (number_at true bytes) (λ n. behind_tokens true (codes ";" ∷ codes "}" ∷ []) n.1 >>= λ l. cond (list_all is_blank l) (Some (record { writes = writes; status = n.0 })) None) p e in
-    let b = bind_some (behind_tokens true (codes ";" ∷ codes "}" ∷ []) a.0.1) (λ l. cond (list_all is_blank l) (Some (record { writes = writes; status = a.0.0 })) None) p a.2 in
+    let a = bind_some (number_at true bytes) (λ n. after_tokens true (codes ";" ∷ codes "}" ∷ []) n.1 >>= λ l. cond (list_all is_blank l) (Some (record { writes = writes; status = n.0 })) None) p e in
+    let b = bind_some (after_tokens true (codes ";" ∷ codes "}" ∷ []) a.0.1) (λ l. cond (list_all is_blank l) (Some (record { writes = writes; status = a.0.0 })) None) p a.2 in
     let g = guard_some (list_all is_blank b.0) (Some (record { writes = writes; status = a.0.0 })) p b.2 in
     let w : writes ≡ p.writes = ap (λ (q : Program). q.writes) (some_same _ _ g.1) in
     let v : a.0.0 ≡ p.status = ap (λ (q : Program). q.status) (some_same _ _ g.1) in
@@ -146,7 +146,7 @@ end_sound writes bytes p e =
       spelled = subst (λ (y : ℕ). Spelled true (decimal y ∷ codes ";" ∷ codes "}" ∷ []) bytes) v (with_number true bytes a.0 (codes ";" ∷ codes "}" ∷ []) n last);
     }
 
--- the writes that go on behind others, and the end
+-- the writes that go on after others, and the end
 record Body (left : ℕ) (writes : List (List ℕ)) (bytes : List ℕ) (p : Program) : Type 0 where
   more : List (List ℕ)
   written : p.writes ≡ writes ++ more
@@ -159,7 +159,7 @@ body_sound : (left : ℕ) (writes : List (List ℕ)) (bytes : List ℕ) (p : Pro
 unfolding body_from
 body_sound zero writes bytes p e = absurd (cc)
 body_sound (suc left) writes bytes p e =
-    elim (ended (behind_token false (codes "return") bytes) writes _ p e) [
+    elim (ended (after_token false (codes "return") bytes) writes _ p e) [
       | inl here ↦
           let r = end_sound writes here.0 p here.2 in
           record {
@@ -187,7 +187,7 @@ body_sound (suc left) writes bytes p e =
 pub reading_sound : (bytes : List ℕ) (p : Program) → reading bytes ≡ Some p → IsProgram bytes p
 unfolding reading tokens_of
 reading_sound bytes p e =
-    let a = bind_some (behind_tokens false (codes "int" ∷ codes "main" ∷ codes "(" ∷ codes "void" ∷ codes ")" ∷ codes "{" ∷ []) bytes) (body_from 17 []) p e in
+    let a = bind_some (after_tokens false (codes "int" ∷ codes "main" ∷ codes "(" ∷ codes "void" ∷ codes ")" ∷ codes "{" ∷ []) bytes) (body_from 17 []) p e in
     let b = body_sound 17 [] a.0 p a.2 in
     record {
       few = omega (arith, b.few, ap length b.written);

@@ -48,10 +48,10 @@ unfolding insts_of stub
 length-insts p =
     omega (arith, length-append (stub 1 ++ stub 2 ++ proxies p.writes) (main_code p), length-append (stub 1 ++ stub 2) (proxies p.writes), length-main_code p)
 
--- the literals begin right behind the instructions
-pub literals_behind : (p : Program) → literals_at p ≡ text_start + length (code_bytes (insts_of p))
+-- the literals begin right after the instructions
+pub literals_after : (p : Program) → literals_at p ≡ text_start + length (code_bytes (insts_of p))
 unfolding literals_at main_at
-literals_behind p = omega (arith, length-code_bytes (insts_of p), length-insts p)
+literals_after p = omega (arith, length-code_bytes (insts_of p), length-insts p)
 
 pub shorter : (s : List ℕ) (strings : List (List ℕ)) → All (λ s. length s ≤ 255) (s ∷ strings) → (length s ≤ 255) × All (λ s. length s ≤ 255) strings
 shorter s strings h = (h 0 [] (omega arith), λ k d l. h (suc k) d (omega arith))

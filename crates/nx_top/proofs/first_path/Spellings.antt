@@ -4,7 +4,7 @@ use Rattle.std.specs.List.{AllByRecursion}
 use Rattle.std.proofs.lemmas.Bool.{eq-eqb}
 use Rattle.std.proofs.lemmas.List.Elements.{recursion_from_All}
 use Rattle.nx_top.specs.first.Program.{Program, quoted, write_tokens, tokens_of, Spelled, IsString, IsProgram}
-use Rattle.nx_top.specs.first.ProgramReading.{◌>>=◌, behind_gap, behind_text, behind_token, write_end, write_at, end_of, end_or, body_from, reading}
+use Rattle.nx_top.specs.first.ProgramReading.{◌>>=◌, after_gap, after_text, after_token, write_end, write_at, end_of, end_or, body_from, reading}
 use Rattle.nx_top.proofs.first_path.TokenReading.{gap_whole, token_whole, spelt, all_blank, tokens_whole}
 use Rattle.nx_top.proofs.first_path.Strings.{quoted_whole}
 use Rattle.nx_top.proofs.first_path.Programs.{number_whole, apart_tokens, tail_of}
@@ -38,16 +38,16 @@ write_whole string others bytes good s =
     record { rest = d.rest; reads = rw (a.reads, b.reads, d.reads) refl; more = d.more }
 
 -- a write is no return
-other_word : (rest : List ℕ) → behind_text (codes "return") (codes "write" ++ rest) ≡ None
-unfolding behind_text
+other_word : (rest : List ℕ) → after_text (codes "return") (codes "write" ++ rest) ≡ None
+unfolding after_text
 other_word rest = refl
 
-not_return : (string : List ℕ) (others : List (List ℕ)) (bytes : List ℕ) → Spelled false (write_tokens string ++ others) bytes → behind_token false (codes "return") bytes ≡ None
-unfolding behind_token write_tokens
+not_return : (string : List ℕ) (others : List (List ℕ)) (bytes : List ℕ) → Spelled false (write_tokens string ++ others) bytes → after_token false (codes "return") bytes ≡ None
+unfolding after_token write_tokens
 not_return string others bytes s =
     let t = spelt false (codes "write") (codes "(" ∷ codes "1" ∷ codes "," ∷ quoted string ∷ codes "," ∷ decimal (length string) ∷ codes ")" ∷ codes ";" ∷ others) bytes s in
-    let opens : behind_gap false bytes ≡ Some (codes "write" ++ t.rest) = ap (behind_gap false) t.is ∙ gap_whole false t.blanks (codes "write" ++ t.rest) t.all (λ q. absurd (cc)) refl in
-    ap (λ o. o >>= behind_text (codes "return")) opens ∙ other_word t.rest
+    let opens : after_gap false bytes ≡ Some (codes "write" ++ t.rest) = ap (after_gap false) t.is ∙ gap_whole false t.blanks (codes "write" ++ t.rest) t.all (λ q. absurd (cc)) refl in
+    ap (λ o. o >>= after_text (codes "return")) opens ∙ other_word t.rest
 
 end_whole : (writes : List (List ℕ)) (v : ℕ) (bytes : List ℕ) → v ≤ 255 → Spelled true (decimal v ∷ codes ";" ∷ codes "}" ∷ []) bytes → end_of writes bytes ≡ Some (record { writes = writes; status = v })
 unfolding end_of
@@ -61,7 +61,7 @@ unfolding body_from
 body_whole zero writes more v bytes few good small s = absurd (omega arith)
 body_whole (suc left) writes [] v bytes few good small s =
     let t = spelt false (codes "return") (decimal v ∷ codes ";" ∷ codes "}" ∷ []) bytes s in
-    let here : behind_token false (codes "return") bytes ≡ Some t.rest = ap (behind_token false (codes "return")) t.is ∙ token_whole false t.blanks (codes "return") t.rest t.all (λ q. absurd (cc)) refl in
+    let here : after_token false (codes "return") bytes ≡ Some t.rest = ap (after_token false (codes "return")) t.is ∙ token_whole false t.blanks (codes "return") t.rest t.all (λ q. absurd (cc)) refl in
     ap (λ o. end_or o writes (write_at bytes >>= λ w. body_from left (writes ++ w.0 ∷ []) w.1)) here
     ∙ end_whole writes v t.rest small t.more
     ∙ ap (λ (l : List (List ℕ)). Some (record { writes = l; status = v })) (sym (append-nil writes))

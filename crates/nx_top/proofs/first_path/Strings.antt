@@ -4,7 +4,7 @@ use Rattle.std.specs.List.{list_all}
 use Rattle.std.proofs.lemmas.Bool.{leb-true, le-leb, eqb-true}
 use Rattle.nx_base.specs.TextBytes.{is_word_byte}
 use Rattle.nx_top.specs.first.Program.{ends_word, begins_word, escaped, quoted, is_string_byte, IsString, Spelled}
-use Rattle.nx_top.specs.first.ProgramReading.{◌>>=◌, behind_token, is_plain, escape_at, char_at, string_from, not_empty, string_at}
+use Rattle.nx_top.specs.first.ProgramReading.{◌>>=◌, after_token, is_plain, escape_at, char_at, string_from, not_empty, string_at}
 use Rattle.nx_top.proofs.first_path.Choices.{bind_some, guard_some, chosen, both, told, not_true, cond_true, cond_false}
 use Rattle.nx_top.proofs.first_path.TokenReading.{Gap, token_gap, token_whole, spelt}
 
@@ -16,7 +16,7 @@ plain_escaped b e =
     let low : 32 ≤ b = leb-true 32 b (both _ _ (both _ _ (both _ _ e).0).0).0 in
     elim (told (b == 10)) [ inl t ↦ absurd (omega (arith, eqb-true b 10 t)) | inr t ↦ rw t refl ]
 
--- a byte's spelling in front of a rest
+-- a byte's spelling before a rest
 record Char (bytes : List ℕ) (c : ℕ × List ℕ) : Type 0 where
   is : bytes ≡ escaped c.0 ++ c.1
   fits : is_string_byte c.0 ≡ true
@@ -46,7 +46,7 @@ char_sound (b ∷ bs) c e =
           }
     ]
 
--- the bytes of a string that go on behind others
+-- the bytes of a string that go on after others
 record Goes (left : ℕ) (text bytes : List ℕ) (x : List ℕ × List ℕ) : Type 0 where
   more : List ℕ
   text_is : x.0 ≡ text ++ more
@@ -87,7 +87,7 @@ ends_quote (c ∷ d ∷ bs) b = ends_quote (d ∷ bs) b
 pub quoted_ends : (string : List ℕ) → ends_word (quoted string) ≡ false
 quoted_ends string = ends_quote (34 ∷ flat_map escaped string) 34
 
--- a string in its quotes, behind a gap
+-- a string in its quotes, after a gap
 pub record Strung (word : Bool) (bytes : List ℕ) (x : List ℕ × List ℕ) : Type 0 where
   pub string : IsString x.0
   pub gap : Gap (word && begins_word (quoted x.0)) bytes (quoted x.0 ++ x.1)
@@ -95,7 +95,7 @@ pub record Strung (word : Bool) (bytes : List ℕ) (x : List ℕ × List ℕ) : 
 pub string_sound : (bytes : List ℕ) (x : List ℕ × List ℕ) → string_at bytes ≡ Some x → Strung false bytes x
 unfolding string_at
 string_sound bytes x e =
-    let k = bind_some (behind_token false (34 ∷ []) bytes) (λ rest. string_from 256 [] rest >>= λ s. not_empty s) x e in
+    let k = bind_some (after_token false (34 ∷ []) bytes) (λ rest. string_from 256 [] rest >>= λ s. not_empty s) x e in
     let m = bind_some (string_from 256 [] k.0) (λ s. not_empty s) x k.2 in
     let n = guard_some (nat_le 1 (length m.0.0)) (Some m.0) x m.2 in
     let same : m.0 ≡ x = cc in
@@ -160,7 +160,7 @@ quoted_whole string others bytes good s =
     let t = spelt false (quoted string) others bytes s in
     let inner : List ℕ = flat_map escaped string ++ 34 ∷ t.rest in
     let is : bytes ≡ t.blanks ++ (34 ∷ inner) = t.is ∙ ap (λ l. t.blanks ++ 34 ∷ l) (append_assoc (flat_map escaped string) (34 ∷ []) t.rest) in
-    let opens : behind_token false (34 ∷ []) bytes ≡ Some inner = ap (behind_token false (34 ∷ [])) is ∙ token_whole false t.blanks (34 ∷ []) inner t.all (λ q. absurd (cc)) refl in
+    let opens : after_token false (34 ∷ []) bytes ≡ Some inner = ap (after_token false (34 ∷ [])) is ∙ token_whole false t.blanks (34 ∷ []) inner t.all (λ q. absurd (cc)) refl in
     let reads : string_from 256 [] inner ≡ Some (string, t.rest) = string_whole 256 [] string t.rest good.bytes (omega (arith, good.short)) in
     record {
       rest = t.rest;

@@ -15,7 +15,7 @@ use Rattle.nx_top.specs.first.ExpectedRuns.{ExpectedRun, Remains, IsDone, AfterT
 abbrev pub After : ExpectedRun → CallOutcome → Guest → View → Type 0
 After plan a g v = AfterTurn plan a g.machine v g.console g.writes g.count.used
 
--- the guest behind a write
+-- the guest after a write
 abbrev pub written : Guest → ℕ → List ℕ → Guest
 written g count bytes = record g { machine = with_reg g.machine 10 count; console = g.console ++ bytes; writes = g.writes + 1 }
 

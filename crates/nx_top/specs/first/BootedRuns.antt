@@ -40,7 +40,7 @@ abbrev pub HoldsFrom : ℕ → List ℕ → Regs → Type 0
 HoldsFrom k [] r = Unit {0}
 HoldsFrom k (w ∷ ws) r = (reg r k ≡ w) × HoldsFrom (k + 1) ws r
 
--- a stretch that ends in a call and leaves the view as it was, and what comes behind its reply, n instructions in all
+-- a stretch that ends in a call and leaves the view as it was, and what comes after its reply, n instructions in all
 pub record MakesCall (r : Regs) (v : View) (call : AnsweredCall) (n : ℕ) (go : Regs → ℕ → Type 0) : Type 0 where
   pub made : ℕ
   pub regs : Regs

@@ -38,7 +38,7 @@ proxy_at = text_start + 24
 unfoldable pub main_at : Program → ℕ
 main_at p = text_start + 24 + 4 * length (proxies p.writes)
 
--- the literals stand behind the main function, which has five instructions for a write, and three others
+-- the literals stand after the main function, which has five instructions for a write, and three others
 unfoldable pub literals_at : Program → ℕ
 literals_at p = main_at p + 4 * (5 * length p.writes + 3)
 
@@ -54,7 +54,7 @@ unfoldable pub write_code : ℕ → ℕ → ℕ → List Inst
 write_code here literal count =
     addi 10 0 (pos 1) ∷ Lui 11 (upper literal) ∷ addi 11 11 (lower literal) ∷ addi 12 0 (pos count) ∷ Jal 1 (pos proxy_at -ℤ pos (here + 16)) ∷ []
 
--- the writes, from an address on, with their literals from another on, each with a zero byte behind it
+-- the writes, from an address on, with their literals from another on, each with a zero byte after it
 unfoldable pub writes_code : ℕ → ℕ → List (List ℕ) → List Inst
 writes_code here literal [] = []
 writes_code here literal (string ∷ strings) = write_code here literal (length string) ++ writes_code (here + 20) (literal + length string + 1) strings

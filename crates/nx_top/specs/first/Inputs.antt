@@ -16,7 +16,7 @@ unfoldable pub calls_text : List ℕ
 calls_text =
     quote (codes "write") ++ 44 ∷ quote (codes "nxsim.h") ++ 44 ∷ quote [] ++ 44 ∷ quote (codes "int") ++ 44 ∷ quote (codes "int") ++ 44 ∷ quote (codes "const void *") ++ 44 ∷ quote (codes "size_t") ++ 10 ∷ []
 
--- the shell's own commands, but for the one that is no name, and its reserved words
+-- the shell's own commands, except the one that is no name, and its reserved words
 unfoldable pub shell_words : List (List ℕ)
 shell_words =
     codes "echo" ∷ codes "cat" ∷ codes "ls" ∷ codes "cd" ∷ codes "mkdir" ∷ codes "rmdir" ∷ codes "rm" ∷ codes "mv" ∷ codes "pwd" ∷ codes "cp"

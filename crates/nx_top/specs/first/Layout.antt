@@ -23,11 +23,11 @@ stack_bytes = 8192
 abbrev pub page_up : ℕ → ℕ
 page_up n = (n + 4095) / 4096 * 4096
 
--- the data begin behind the texts
+-- the data begin after the texts
 abbrev pub data_start : ℕ → ℕ
 data_start text_length = text_start + page_up text_length
 
--- the stack of the first slot behind the shell's, where no program has data
+-- the stack of the first slot after the shell's, where no program has data
 abbrev pub stack_low : ℕ → ℕ
 stack_low text_length = data_start text_length + stack_bytes
 

@@ -42,7 +42,7 @@ ends_word [] = false
 ends_word (b ∷ []) = is_word_byte b
 ends_word (b ∷ c ∷ bs) = ends_word (c ∷ bs)
 
--- the bytes are these tokens with blanks between, before and behind them, of which there is one at
+-- the bytes are these tokens with blanks between, before and after them, of which there is one at
 -- least where two tokens would else be one; the test says whether a word stands right before
 pub data Spelled : Bool → List (List ℕ) → List ℕ → Type 0 where
   Done : (word : Bool) (blanks : List ℕ) → list_all is_blank blanks ≡ true → Spelled word [] blanks

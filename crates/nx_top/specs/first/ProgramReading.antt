@@ -24,35 +24,35 @@ abbrev pub begins_blank : List ℕ → Bool
 begins_blank [] = false
 begins_blank (b ∷ bs) = is_blank b
 
--- the bytes behind the blanks
-abbrev pub behind_blanks : List ℕ → List ℕ
-behind_blanks [] = []
-behind_blanks (b ∷ bs) = if is_blank b then behind_blanks bs else b ∷ bs
+-- the bytes after the blanks
+abbrev pub after_blanks : List ℕ → List ℕ
+after_blanks [] = []
+after_blanks (b ∷ bs) = if is_blank b then after_blanks bs else b ∷ bs
 
 -- the same, where a blank is wanted or not
-unfoldable pub behind_gap : Bool → List ℕ → Option (List ℕ)
-behind_gap wanted bytes = if wanted && not (begins_blank bytes) then None else Some (behind_blanks bytes)
+unfoldable pub after_gap : Bool → List ℕ → Option (List ℕ)
+after_gap wanted bytes = if wanted && not (begins_blank bytes) then None else Some (after_blanks bytes)
 
--- the bytes behind a text
-unfoldable pub behind_text : List ℕ → List ℕ → Option (List ℕ)
-behind_text text bytes = if starts_with nat_eq bytes text then Some (drop (length text) bytes) else None
+-- the bytes after a text
+unfoldable pub after_text : List ℕ → List ℕ → Option (List ℕ)
+after_text text bytes = if starts_with nat_eq bytes text then Some (drop (length text) bytes) else None
 
--- the bytes behind a token, where a word stands right before or not
-unfoldable pub behind_token : Bool → List ℕ → List ℕ → Option (List ℕ)
-behind_token word token bytes = do
-  rest ← behind_gap (word && begins_word token) bytes
-  behind_text token rest
+-- the bytes after a token, where a word stands right before or not
+unfoldable pub after_token : Bool → List ℕ → List ℕ → Option (List ℕ)
+after_token word token bytes = do
+  rest ← after_gap (word && begins_word token) bytes
+  after_text token rest
 
-unfoldable pub behind_tokens : Bool → List (List ℕ) → List ℕ → Option (List ℕ)
-behind_tokens word [] bytes = Some bytes
-behind_tokens word (token ∷ tokens) bytes = do
-  rest ← behind_token word token bytes
-  behind_tokens (ends_word token) tokens rest
+unfoldable pub after_tokens : Bool → List (List ℕ) → List ℕ → Option (List ℕ)
+after_tokens word [] bytes = Some bytes
+after_tokens word (token ∷ tokens) bytes = do
+  rest ← after_token word token bytes
+  after_tokens (ends_word token) tokens rest
 
 abbrev pub is_digit : ℕ → Bool
 is_digit b = nat_le 48 b && nat_le b 57
 
--- the number that goes on with these digits, and the bytes behind it
+-- the number that goes on with these digits, and the bytes after it
 unfoldable pub number_from : ℕ → List ℕ → Option (ℕ × List ℕ)
 number_from n [] = Some (n, [])
 number_from n (b ∷ bs) =
@@ -63,7 +63,7 @@ abbrev pub begins_digit : List ℕ → Bool
 begins_digit [] = false
 begins_digit (b ∷ bs) = is_digit b
 
--- a number of at most 255, with no zero in front, and the bytes behind it
+-- a number of at most 255, with no leading zero, and the bytes after it
 unfoldable pub digits_at : List ℕ → Option (ℕ × List ℕ)
 digits_at [] = None
 digits_at (b ∷ bs) =
@@ -73,25 +73,25 @@ digits_at (b ∷ bs) =
 
 unfoldable pub number_at : Bool → List ℕ → Option (ℕ × List ℕ)
 number_at word bytes = do
-  rest ← behind_gap word bytes
+  rest ← after_gap word bytes
   digits_at rest
 
 -- a byte that stands for itself in a string
 abbrev pub is_plain : ℕ → Bool
 is_plain b = nat_le 32 b && nat_le b 126 && not (b == 34) && not (b == 92)
 
--- the newline of an escape, and the bytes behind it
+-- the newline of an escape, and the bytes after it
 abbrev pub escape_at : List ℕ → Option (ℕ × List ℕ)
 escape_at [] = None
 escape_at (b ∷ bs) = if b == 110 then Some (10, bs) else None
 
--- a byte of a string, and the bytes behind it
+-- a byte of a string, and the bytes after it
 unfoldable pub char_at : List ℕ → Option (ℕ × List ℕ)
 char_at [] = None
 char_at (b ∷ bs) = if b == 92 then escape_at bs else if is_plain b then Some (b, bs) else None
 
 -- a string whose first bytes are read, where fewer than so many are still to come, and the bytes
--- behind its closing quote
+-- after its closing quote
 unfoldable pub string_from : ℕ → List ℕ → List ℕ → Option (List ℕ × List ℕ)
 string_from zero text bytes = None
 string_from (suc left) text [] = None
@@ -102,25 +102,25 @@ string_from (suc left) text (b ∷ bs) =
 abbrev pub not_empty : List ℕ × List ℕ → Option (List ℕ × List ℕ)
 not_empty s = if nat_le 1 (length s.0) then Some s else None
 
--- a string of 1 to 255 bytes in its quotes, and the bytes behind it
+-- a string of 1 to 255 bytes in its quotes, and the bytes after it
 unfoldable pub string_at : List ℕ → Option (List ℕ × List ℕ)
 string_at bytes = do
-  rest ← behind_token false (34 ∷ []) bytes
+  rest ← after_token false (34 ∷ []) bytes
   s ← string_from 256 [] rest
   not_empty s
 
--- the bytes behind the second comma of a write, where the number is the count
+-- the bytes after the second comma of a write, where the number is the count
 unfoldable pub write_end : ℕ → List ℕ → Option (List ℕ)
 write_end count bytes = do
-  rest ← behind_tokens false (codes "," ∷ []) bytes
+  rest ← after_tokens false (codes "," ∷ []) bytes
   number ← number_at false rest
-  last ← behind_tokens true (codes ")" ∷ codes ";" ∷ []) number.1
+  last ← after_tokens true (codes ")" ∷ codes ";" ∷ []) number.1
   if number.0 == count then Some last else None
 
--- what a write writes, and the bytes behind it
+-- what a write writes, and the bytes after it
 unfoldable pub write_at : List ℕ → Option (List ℕ × List ℕ)
 write_at bytes = do
-  rest ← behind_tokens false (codes "write" ∷ codes "(" ∷ codes "1" ∷ codes "," ∷ []) bytes
+  rest ← after_tokens false (codes "write" ∷ codes "(" ∷ codes "1" ∷ codes "," ∷ []) bytes
   s ← string_at rest
   last ← write_end (length s.0) s.1
   Some (s.0, last)
@@ -129,7 +129,7 @@ write_at bytes = do
 unfoldable pub end_of : List (List ℕ) → List ℕ → Option Program
 end_of writes bytes = do
   number ← number_at true bytes
-  last ← behind_tokens true (codes ";" ∷ codes "}" ∷ []) number.1
+  last ← after_tokens true (codes ";" ∷ codes "}" ∷ []) number.1
   if list_all is_blank last then Some (record { writes = writes; status = number.0 }) else None
 
 -- the end where return stands here, and something else where not
@@ -141,10 +141,10 @@ end_or None writes other = other
 unfoldable pub body_from : ℕ → List (List ℕ) → List ℕ → Option Program
 body_from zero writes bytes = None
 body_from (suc left) writes bytes =
-    end_or (behind_token false (codes "return") bytes) writes
+    end_or (after_token false (codes "return") bytes) writes
     (write_at bytes >>= λ w. body_from left (writes ++ w.0 ∷ []) w.1)
 
 unfoldable pub reading : List ℕ → Option Program
 reading bytes = do
-  rest ← behind_tokens false (codes "int" ∷ codes "main" ∷ codes "(" ∷ codes "void" ∷ codes ")" ∷ codes "{" ∷ []) bytes
+  rest ← after_tokens false (codes "int" ∷ codes "main" ∷ codes "(" ∷ codes "void" ∷ codes ")" ∷ codes "{" ∷ []) bytes
   body_from 17 [] rest

@@ -12,7 +12,7 @@ use nx_ram::{ProgImage, Ram};
 use nx_space::{FlatSpace, RAM_START, Space};
 use std::alloc::Global;
 
-// The program is the second group, and has the slot behind the shell's.
+// The program is the second group, and has the slot after the shell's.
 const PROGRAM_GROUP: u32 = 2;
 
 const PROGRAM_SLOT: u32 = 1;
@@ -20,7 +20,9 @@ const PROGRAM_SLOT: u32 = 1;
 /// A space in which a program's group has its view, and the registers of its main thread.
 #[derive(Drop)]
 pub struct Booted {
+    /// The space, whose entered group is the program's.
     pub space: FlatSpace,
+    /// The registers of the main thread.
     pub regs: Regs,
 }
 

@@ -48,9 +48,9 @@ fn lower(at: u32) -> i32
     if low < 2048 { low } else { low - 4096 }
 }
 
-// The call of the proxy, four instructions behind an address.
+// The call of the proxy, four instructions after an address.
 fn call_proxy(here: u32) -> Inst
-    requires behind { proxy_at ≤ here }
+    requires after { proxy_at ≤ here }
     requires near { here < proxy_at + 65536 }
     ensures value { result ≡ Inst.Jal 1 (pos proxy_at -ℤ pos (here + 16)) }
     ensures in_range { here % 4 ≡ 0 → IsInRange result }
@@ -62,7 +62,7 @@ fn call_proxy(here: u32) -> Inst
     }
 }
 
-// Puts an instruction's word behind the code.
+// Puts an instruction's word after the code.
 fn put(code: &mut Bytes, inst: Inst) -> Result<(), AllocError>
     requires { IsInRange inst }
     ensures { OnOk result (code.new ≡ code.old ++ to_le 4 (encode_of inst)) }
@@ -119,7 +119,7 @@ fn put_write(code: &mut Bytes, here: u32, literal: u32, count: u32) -> Result<()
     put(code, call_proxy(here))
 }
 
-// The writes of strings, whose literals stand one behind the other.
+// The writes of strings, whose literals stand one after the other.
 fn put_writes(
     code: &mut Bytes,
     mut here: u32,
@@ -195,7 +195,7 @@ fn put_main(code: &mut Bytes, strings: &[Bytes], status: u8) -> Result<(), Alloc
     )
 }
 
-// Puts zeros behind the text, up to a multiple of 16.
+// Puts zeros after the text, up to a multiple of 16.
 #[tactic(auto, unfolding(crate::specs::first::Compiled::padded))]
 fn pad(alloc: Global, text: &mut Bytes) -> Result<(), AllocError>
     ensures { OnOk result (text.new ≡ padded text.old) }

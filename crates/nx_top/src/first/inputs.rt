@@ -5,7 +5,7 @@ ghost use Rattle.std.specs.List.{list_any};
 ghost use Rattle.std.specs.Str.{bytes_eq};
 ghost use Rattle.nx_top.specs.first.Inputs.{config_text, calls_text, shell_words, IsScript};
 
-// The shell's own commands, and the reserved words of its language, but for those that are no
+// The shell's own commands, and the reserved words of its language, except those that are no
 // names.
 const SHELL_WORDS: [&[u8]; 28] = [
     b"echo", b"cat", b"ls", b"cd", b"mkdir", b"rmdir", b"rm", b"mv", b"pwd", b"cp", b"set",

@@ -6,7 +6,7 @@ ghost use Rattle.nx_top.specs.first.Layout.{page_up, data_start};
 /// The bytes of the RAM.
 pub const RAM_BYTES: u32 = 4_194_304;
 
-/// The address at which the texts begin: behind the pool of 4096 blocks of 64 bytes.
+/// The address at which the texts begin: after the pool of 4096 blocks of 64 bytes.
 pub const TEXT_START: u32 = 0x8004_0000;
 
 /// The bytes of a thread's stack.
@@ -24,7 +24,7 @@ fn page_up(bytes: u32) -> u32
     (bytes + 4095) / 4096 * 4096
 }
 
-/// The address of the data behind a text of that many bytes.
+/// The address of the data after a text of that many bytes.
 pub fn data_start(text_length: u32) -> u32
     requires { text_length < 2 ^ 20 }
     ensures value { result ≡ data_start text_length }

@@ -7,7 +7,7 @@ ghost use Rattle.nx_top.specs.first.ProgramReading as read;
 ghost use Rattle.nx_top.specs.first.ProgramReading.{Gives};
 ghost use Rattle.nx_top.specs.declared.first.program.ReadStop.TheVariants.{Memory};
 
-use crate::first::tokens::{are_blanks, behind_token, behind_tokens, number_at};
+use crate::first::tokens::{after_token, after_tokens, are_blanks, number_at};
 use nx_base::Bytes;
 use std::alloc::{AllocError, AllocFailed, Global};
 use std::marker::Model;
@@ -84,7 +84,7 @@ fn char_at(bytes: &[u8]) -> Option<(u8, &[u8])>
     }
 }
 
-// The byte behind the others.
+// The byte after the others.
 fn with_byte(text: Vec<u8>, byte: u8) -> Result<Vec<u8>, AllocError>
     ensures { IfOk result (λ v. v.items ≡ text.items ++ byte ∷ []) }
 {
@@ -115,7 +115,7 @@ fn string_from(left: u32, text: Vec<u8>, bytes: &[u8]) -> Result<(Vec<u8>, &[u8]
 fn string_at(alloc: Global, bytes: &[u8]) -> Result<(Vec<u8>, &[u8]), ReadStop>
     ensures { Gives (λ x. (x.0.items, x.1.now)) result (read.string_at bytes.now) }
 {
-    let rest = behind_token(bytes, false, b"\"").ok_or(ReadStop::Refused)?;
+    let rest = after_token(bytes, false, b"\"").ok_or(ReadStop::Refused)?;
     let (text, rest) = string_from(256, Vec::new(alloc), rest)?;
     if text.is_empty() {
         return Err(ReadStop::Refused);
@@ -127,9 +127,9 @@ fn string_at(alloc: Global, bytes: &[u8]) -> Result<(Vec<u8>, &[u8]), ReadStop>
 fn write_end(bytes: &[u8], count: usize) -> Option<&[u8]>
     ensures { option_map (λ s. s.now) result ≡ read.write_end count bytes.now }
 {
-    let rest = behind_tokens(bytes, false, &[","])?;
+    let rest = after_tokens(bytes, false, &[","])?;
     let (number, rest) = number_at(rest, false)?;
-    let rest = behind_tokens(rest, true, &[")", ";"])?;
+    let rest = after_tokens(rest, true, &[")", ";"])?;
     if usize::from(number) != count {
         return None;
     }
@@ -140,7 +140,7 @@ fn write_end(bytes: &[u8], count: usize) -> Option<&[u8]>
 fn write_at(alloc: Global, bytes: &[u8]) -> Result<(Vec<u8>, &[u8]), ReadStop>
     ensures { Gives (λ x. (x.0.items, x.1.now)) result (read.write_at bytes.now) }
 {
-    let rest = behind_tokens(bytes, false, &["write", "(", "1", ","]).ok_or(ReadStop::Refused)?;
+    let rest = after_tokens(bytes, false, &["write", "(", "1", ","]).ok_or(ReadStop::Refused)?;
     let (text, rest) = string_at(alloc, rest)?;
     let rest = write_end(rest, text.len()).ok_or(ReadStop::Refused)?;
     Ok((text, rest))
@@ -151,14 +151,14 @@ fn end_of(writes: Vec<Bytes>, bytes: &[u8]) -> Option<WriteProgram>
     ensures { result ≡ read.end_of writes.items bytes.now }
 {
     let (status, rest) = number_at(bytes, true)?;
-    let rest = behind_tokens(rest, true, &[";", "}"])?;
+    let rest = after_tokens(rest, true, &[";", "}"])?;
     if !are_blanks(rest) {
         return None;
     }
     Some(WriteProgram { writes, status })
 }
 
-// The string behind the others.
+// The string after the others.
 fn with_write(writes: Vec<Bytes>, text: Vec<u8>) -> Result<Vec<Bytes>, AllocError>
     ensures { IfOk result (λ v. v.items ≡ writes.items ++ text.items ∷ []) }
 {
@@ -179,7 +179,7 @@ fn body_from(
     if left == 0 {
         return Err(ReadStop::Refused);
     }
-    match behind_token(bytes, false, b"return") {
+    match after_token(bytes, false, b"return") {
         Some(rest) => end_of(writes, rest).ok_or(ReadStop::Refused),
         None => {
             let (text, rest) = write_at(alloc, bytes)?;
@@ -193,7 +193,7 @@ fn body_from(
 fn reading(alloc: Global, bytes: &[u8]) -> Result<WriteProgram, ReadStop>
     ensures { Gives (λ p. p) result (read.reading bytes.now) }
 {
-    let rest = behind_tokens(bytes, false, &["int", "main", "(", "void", ")", "{"]).ok_or(
+    let rest = after_tokens(bytes, false, &["int", "main", "(", "void", ")", "{"]).ok_or(
         ReadStop::Refused,
     )?;
     body_from(alloc, 17, Vec::new(alloc), rest)

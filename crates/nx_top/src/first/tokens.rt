@@ -14,8 +14,8 @@ fn is_blank(byte: u8) -> bool
     byte == b' ' || byte == b'\n'
 }
 
-fn behind_blanks(bytes: &[u8]) -> &[u8]
-    ensures { result.now ≡ read.behind_blanks bytes.now }
+fn after_blanks(bytes: &[u8]) -> &[u8]
+    ensures { result.now ≡ read.after_blanks bytes.now }
 {
     let mut rest = bytes;
     while let [first, tail @ ..] = rest {
@@ -54,19 +54,19 @@ fn ends_word(bytes: &[u8]) -> bool
     }
 }
 
-#[tactic(auto, unfolding(crate::specs::first::ProgramReading::behind_gap))]
-fn behind_gap(bytes: &[u8], is_wanted: bool) -> Option<&[u8]>
-    ensures { option_map (λ s. s.now) result ≡ read.behind_gap is_wanted bytes.now }
+#[tactic(auto, unfolding(crate::specs::first::ProgramReading::after_gap))]
+fn after_gap(bytes: &[u8], is_wanted: bool) -> Option<&[u8]>
+    ensures { option_map (λ s. s.now) result ≡ read.after_gap is_wanted bytes.now }
 {
     if is_wanted && !begins_blank(bytes) {
         return None;
     }
-    Some(behind_blanks(bytes))
+    Some(after_blanks(bytes))
 }
 
-#[tactic(auto, unfolding(crate::specs::first::ProgramReading::behind_text))]
-fn behind_text<'a>(bytes: &'a [u8], text: &[u8]) -> Option<&'a [u8]>
-    ensures { option_map (λ s. s.now) result ≡ read.behind_text text.now bytes.now }
+#[tactic(auto, unfolding(crate::specs::first::ProgramReading::after_text))]
+fn after_text<'a>(bytes: &'a [u8], text: &[u8]) -> Option<&'a [u8]>
+    ensures { option_map (λ s. s.now) result ≡ read.after_text text.now bytes.now }
 {
     if !bytes.starts_with(text) {
         return None;
@@ -74,32 +74,32 @@ fn behind_text<'a>(bytes: &'a [u8], text: &[u8]) -> Option<&'a [u8]>
     Some(&bytes[text.len()..])
 }
 
-/// The bytes behind a token and the blanks in front of it, if it stands here. Behind a word a token
-/// that begins as a word has one blank in front at least.
-#[tactic(auto, unfolding(crate::specs::first::ProgramReading::behind_token))]
-pub fn behind_token<'a>(bytes: &'a [u8], is_word: bool, token: &[u8]) -> Option<&'a [u8]>
-    ensures { option_map (λ s. s.now) result ≡ read.behind_token is_word token.now bytes.now }
+/// The bytes after a token and the blanks before it, if it stands here. After a word a token
+/// that begins as a word has one blank at least before it.
+#[tactic(auto, unfolding(crate::specs::first::ProgramReading::after_token))]
+pub fn after_token<'a>(bytes: &'a [u8], is_word: bool, token: &[u8]) -> Option<&'a [u8]>
+    ensures { option_map (λ s. s.now) result ≡ read.after_token is_word token.now bytes.now }
 {
-    let rest = behind_gap(bytes, is_word && begins_word(token))?;
-    behind_text(rest, token)
+    let rest = after_gap(bytes, is_word && begins_word(token))?;
+    after_text(rest, token)
 }
 
-/// The bytes behind several tokens, as `behind_token` has them one by one.
-#[tactic(auto, unfolding(crate::specs::first::ProgramReading::behind_tokens))]
-pub fn behind_tokens<'a>(bytes: &'a [u8], is_word: bool, tokens: &[&str]) -> Option<&'a [u8]>
-    ensures { option_map (λ s. s.now) result ≡ read.behind_tokens is_word (map (λ t. t.now) tokens.now) bytes.now }
+/// The bytes after several tokens, as `after_token` has them one by one.
+#[tactic(auto, unfolding(crate::specs::first::ProgramReading::after_tokens))]
+pub fn after_tokens<'a>(bytes: &'a [u8], is_word: bool, tokens: &[&str]) -> Option<&'a [u8]>
+    ensures { option_map (λ s. s.now) result ≡ read.after_tokens is_word (map (λ t. t.now) tokens.now) bytes.now }
 {
     match tokens {
         [token, tokens @ ..] => {
             let token = token.as_bytes();
-            let rest = behind_token(bytes, is_word, token)?;
-            behind_tokens(rest, ends_word(token), tokens)
+            let rest = after_token(bytes, is_word, token)?;
+            after_tokens(rest, ends_word(token), tokens)
         }
         _ => Some(bytes),
     }
 }
 
-// The number that goes on with the digits here, if it is at most 255, and the bytes behind it.
+// The number that goes on with the digits here, if it is at most 255, and the bytes after it.
 #[tactic(auto, unfolding(crate::specs::first::ProgramReading::number_from))]
 fn number_from(number: u8, bytes: &[u8]) -> Option<(u8, &[u8])>
     ensures { option_map (λ x. (x.0, x.1.now)) result ≡ read.number_from number bytes.now }
@@ -141,13 +141,13 @@ fn digits_at(bytes: &[u8]) -> Option<(u8, &[u8])>
     }
 }
 
-/// A decimal number of 0 to 255 with no zero in front, and the bytes behind it. Behind a word it has
-/// one blank in front at least.
+/// A decimal number of 0 to 255 with no leading zero, and the bytes after it. After a word it has
+/// one blank at least before it.
 #[tactic(auto, unfolding(crate::specs::first::ProgramReading::number_at))]
 pub fn number_at(bytes: &[u8], is_word: bool) -> Option<(u8, &[u8])>
     ensures { option_map (λ x. (x.0, x.1.now)) result ≡ read.number_at is_word bytes.now }
 {
-    let rest = behind_gap(bytes, is_word)?;
+    let rest = after_gap(bytes, is_word)?;
     digits_at(rest)
 }
 

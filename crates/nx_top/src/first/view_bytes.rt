@@ -8,7 +8,7 @@ use nx_base::Bytes;
 use nx_space::Space;
 use std::alloc::AllocError;
 
-/// Puts the bytes at an address behind others, up to the first that may not be read, and answers
+/// Puts the bytes at an address after others, up to the first that may not be read, and answers
 /// whether all of them may.
 pub fn put_view_bytes<S: Space>(
     bytes: &mut Bytes,

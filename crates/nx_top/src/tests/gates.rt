@@ -141,7 +141,7 @@ fn a_faulty_table_is_refused_at_its_record(rt: HostRuntime) -> Result<(), Fail> 
     Ok(())
 }
 
-// A number of lines, each of a front, its number, and a rest.
+// A number of lines, each of its first part, its number, and a rest.
 fn numbered(alloc: Global, lines: u32, front: &str, rest: &str) -> Result<String, AllocError> {
     let mut text = String::new(alloc);
     for i in 0..lines {
@@ -214,7 +214,7 @@ fn file_names_are_printed_as_given(rt: HostRuntime) -> Result<(), Fail> {
     Ok(())
 }
 
-// Each read in turn fails, and nothing behind it is read. A missing file is such a fault.
+// Each read in turn fails, and nothing after it is read. A missing file is such a fault.
 #[test]
 fn a_file_of_a_listing_cannot_be_read(rt: HostRuntime) -> Result<(), Fail> {
     let alloc = rt.alloc();
