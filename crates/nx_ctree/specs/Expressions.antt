@@ -34,13 +34,13 @@ unary_of sign.Minus = Some unary.Minus
 unary_of sign.Not = Some unary.Not
 unary_of sign.Complement = Some unary.Complement
 unary_of sign.Star = Some unary.Deref
-unary_of other = None
+unary_of _ = None
 
 -- The steps.
 abbrev pub step_of : Sign → Option StepOperator
 step_of sign.Increment = Some step.Increment
 step_of sign.Decrement = Some step.Decrement
-step_of other = None
+step_of _ = None
 
 -- The operators between two operands, and their levels from the strongest on (C11 6.5.5 to 6.5.14).
 abbrev pub binary_of : Sign → Option (BinaryOperator × ℕ)
@@ -62,7 +62,7 @@ binary_of sign.BitXor = Some (binary.BitXor, 8)
 binary_of sign.BitOr = Some (binary.BitOr, 9)
 binary_of sign.AndMark = Some (binary.And, 10)
 binary_of sign.OrMark = Some (binary.Or, 11)
-binary_of other = None
+binary_of _ = None
 
 -- The assignments (C11 6.5.16).
 abbrev pub assign_of : Sign → Option AssignOperator
@@ -72,7 +72,7 @@ assign_of sign.SubtractSet = Some assign.Subtract
 assign_of sign.MultiplySet = Some assign.Multiply
 assign_of sign.DivideSet = Some assign.Divide
 assign_of sign.RemainderSet = Some assign.Remainder
-assign_of other = None
+assign_of _ = None
 
 -- Levels: post is 0, un is 1, the operators have 2 to 11, cond is 12, and a whole expression 13.
 abbrev pub whole : ℕ

@@ -118,7 +118,7 @@ abbrev pub type_word : Sign → Option TypeWord
 type_word sign.Int = Some word.Int
 type_word sign.CharWord = Some word.Char
 type_word sign.Void = Some word.Void
-type_word other = None
+type_word _ = None
 
 -- "static", or not.
 pub data IsStatic : List Signed → Bool → List Signed → Type 0 where

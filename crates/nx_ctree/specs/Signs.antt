@@ -79,7 +79,7 @@ mark_text sign.Not = codes "!"
 mark_text sign.Complement = codes "~"
 mark_text sign.Increment = codes "++"
 mark_text sign.Decrement = codes "--"
-mark_text other = []
+mark_text _ = []
 
 -- The mark that these bytes spell.
 abbrev pub mark_of : List ℕ → Option Sign

@@ -61,7 +61,9 @@ pub enum AssignOperator {
 #[derive(Debug, Drop)]
 #[cycle(tree)]
 pub struct Expr {
+    /// The line of its first token, counted from 1.
     pub line: u32,
+    /// Which form it has, with its parts.
     pub kind: ExprKind,
 }
 
@@ -100,10 +102,13 @@ pub enum ExprKind {
 #[derive(Debug, Drop)]
 #[cycle(tree)]
 pub struct Place {
+    /// The line of its first token, counted from 1.
     pub line: u32,
+    /// Which form it has, with its parts.
     pub kind: PlaceKind,
 }
 
+/// The forms of places.
 #[derive(Debug, Drop)]
 #[cycle(tree)]
 pub enum PlaceKind {

@@ -22,10 +22,13 @@ pub enum Base {
 /// A constant, with the line of its first token.
 #[derive(Debug, Drop)]
 pub struct Constant {
+    /// The line of its first token, counted from 1.
     pub line: u32,
+    /// Which form it has, with its parts.
     pub kind: ConstantKind,
 }
 
+/// The forms of constants.
 #[derive(Debug, Drop)]
 pub enum ConstantKind {
     Number(u32),
@@ -37,9 +40,13 @@ pub enum ConstantKind {
 /// A parameter, with the line of its first word.
 #[derive(Debug, Drop)]
 pub struct Param {
+    /// The line of its first token, counted from 1.
     pub line: u32,
+    /// Its type, without `*`.
     pub base: Base,
+    /// Whether a `*` stands before its name.
     pub pointer: bool,
+    /// Its name.
     pub name: Bytes,
 }
 
@@ -64,7 +71,9 @@ pub enum Initialiser {
 /// A function's body.
 #[derive(Debug, Drop)]
 pub struct Function {
+    /// The declarations at its head.
     pub decls: Items<Decl>,
+    /// The statements after them.
     pub body: Shared<Items<Stmt>>,
 }
 
@@ -82,16 +91,21 @@ pub enum Rest {
 /// A declaration or definition at file level, with the line of its first word.
 #[derive(Debug, Drop)]
 pub struct External {
+    /// The line of its first token, counted from 1.
     pub line: u32,
     /// Whether it begins with `static`.
     pub internal: bool,
+    /// The type word: of a function, what it returns.
     pub result: TypeWord,
+    /// Its name.
     pub name: Bytes,
+    /// What stands after its name.
     pub rest: Rest,
 }
 
 /// A file (C11 section 6.9).
 #[derive(Debug, Drop)]
 pub struct Unit {
+    /// The declarations and definitions, in order.
     pub externals: Items<External>,
 }

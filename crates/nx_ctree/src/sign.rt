@@ -260,8 +260,11 @@ fn sign_of(kind: TokenKind, text: &[u8]) -> Sign
 /// A token as the grammar sees it.
 #[derive(Debug, Drop)]
 pub struct Signed<'a> {
+    /// Its sign in the grammar.
     pub sign: Sign,
+    /// How it is spelled.
     pub text: Spelling<'a>,
+    /// Its line, counted from 1.
     pub line: u32,
 }
 

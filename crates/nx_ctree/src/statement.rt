@@ -8,10 +8,13 @@ use sqlite_items::Items;
 #[derive(Debug, Drop)]
 #[cycle(statements)]
 pub struct Stmt {
+    /// The line of its first token, counted from 1.
     pub line: u32,
+    /// Which form it has, with its parts.
     pub kind: StmtKind,
 }
 
+/// The forms of statements.
 #[derive(Debug, Drop)]
 #[cycle(statements)]
 pub enum StmtKind {
@@ -32,20 +35,28 @@ pub enum StmtKind {
 /// Declarations of one type at a function's head, with the line of their first token.
 #[derive(Debug, Drop)]
 pub struct Decl {
+    /// The line of its first token, counted from 1.
     pub line: u32,
+    /// Its type, without `*`.
     pub base: Base,
+    /// What it declares, in order.
     pub items: Items<Item>,
 }
 
 /// One name of a declaration, with the line of its `*` or its name.
 #[derive(Debug, Drop)]
 pub struct Item {
+    /// The line of its first token, counted from 1.
     pub line: u32,
+    /// Whether a `*` stands before its name.
     pub pointer: bool,
+    /// Its name.
     pub name: Bytes,
+    /// Which form it has, with its parts.
     pub kind: ItemKind,
 }
 
+/// What stands after a local's name: nothing, an array's length, or its value.
 #[derive(Debug, Drop)]
 pub enum ItemKind {
     Plain,
