@@ -1,14 +1,15 @@
-use nx_base::OutOfMemory;
 //! Answers questions about the protection of memory. Each line of standard input is a request, with
 //! its numbers in decimal: `entry PLACE CFG ADDR` sets an entry of PMP, `allows AT LEN ACCESS MODE`
 //! prints `yes` or `no`; `memory BYTES` makes a RAM of zeros, `word PLACE VALUE` stores a word in it,
 //! `walk SATP AT ACCESS` prints the physical address or `fault`.
 #![tactic(auto)]
+
 mod answers;
 mod request;
 
 use answers::{allowed, set_entry, store_word, translated};
 use anyhow::{Context, Result};
+use nx_base::OutOfMemory;
 use nx_pmp::{Pmp, PmpEntry};
 use nx_ram::Ram;
 use request::{Request, parse_request};
