@@ -6,6 +6,7 @@ pub mod Puts
 pub mod RegisterLemmas
 pub mod Stores
 mod Outputs
+mod Marks
 pub mod RangeLemmas
 pub mod Shapes
 pub mod WellFormed

@@ -1,8 +1,16 @@
 -- The bytes of texts in ASCII: sets of bytes, each with its name, and the numbers that digits write.
 use Rattle.std.specs.Prelude.{ℕ, ◌^◌, ◌==◌, Bool, false, ◌&&◌, ◌||◌, nat_lt, if◌then◌else◌, List, [], ◌∷◌, reverse, Option, Some, None}
 use Rattle.std.specs.Char.{is_ascii_alphabetic, is_ascii_alphanumeric}
-use Rattle.std.specs.List.{list_all}
+use Rattle.std.specs.List.{list_all, before_first, after_first}
 use Rattle.std.specs.Str.Parse.{digits_value}
+
+-- what stands before the first mark, or all where there is none
+abbrev pub before_mark : ℕ → List ℕ → List ℕ
+before_mark mark bs = before_first (λ b. b == mark) bs
+
+-- what stands after the first mark, or nothing where there is none
+abbrev pub after_mark : ℕ → List ℕ → List ℕ
+after_mark mark bs = after_first (λ b. b == mark) bs
 
 -- a space or a tab: the blanks of POSIX
 abbrev pub is_blank : ℕ → Bool

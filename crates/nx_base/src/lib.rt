@@ -10,6 +10,7 @@ mod calls;
 pub mod causes;
 mod count;
 mod cursor;
+mod cutting;
 mod errno;
 mod laws;
 mod operations;
@@ -26,6 +27,7 @@ pub use bytes::Bytes;
 pub use calls::{FIRST_CALL, KCall, Kind, MOST_PARAMETERS, each_call_has_its_name};
 pub use count::Count;
 pub use cursor::Cursor;
+pub use cutting::cut;
 pub use errno::Errno;
 pub use laws::{
     a_call_has_at_most_two_outputs, a_call_taken_from_a_view_is_well_formed,

@@ -68,3 +68,16 @@ fn calls_have_names_and_kinds(rt: HostRuntime) {
     assert!(rt; KCall::Getpid.gives_value() && !KCall::NxThreadExit.gives_value());
     assert_eq!(rt; Errno::Emsgsize.number(), 90);
 }
+
+#[test]
+fn bytes_are_cut_at_the_first_mark(rt: HostRuntime) {
+    for (bytes, before, after) in [
+        (b"a=b=c".as_slice(), b"a".as_slice(), b"b=c".as_slice()),
+        (b"=".as_slice(), b"".as_slice(), b"".as_slice()),
+        (b"abc".as_slice(), b"abc".as_slice(), b"".as_slice()),
+    ] {
+        let (first, rest) = cut(bytes, b'=');
+        assert_eq!(rt; first, before);
+        assert_eq!(rt; rest, after);
+    }
+}

@@ -1,8 +1,8 @@
 -- The types of a row of the call table.
 use Rattle.std.specs.Prelude.{ℕ, ◌==◌, Bool, true, false, not, ◌||◌, nat_lt, if◌then◌else◌, List, [], ◌∷◌, ◌++◌, length, codes}
-use Rattle.std.specs.List.{count_by, filter, flat_map, concat, slice_split, join_with_byte, before_first, after_first}
+use Rattle.std.specs.List.{count_by, filter, flat_map, concat, slice_split, join_with_byte}
 use Rattle.std.specs.Str.{bytes_eq}
-use Rattle.nx_base.specs.TextBytes.{is_line_blank, is_word_byte}
+use Rattle.nx_base.specs.TextBytes.{before_mark, after_mark, is_line_blank, is_word_byte}
 use Rattle.nx_calls.specs.declared.types.CallType.{CallType}
 
 -- a letter, a digit or an underscore goes to the word that follows it, if one does
@@ -63,7 +63,7 @@ is_union field = nat_lt 1 (bars field)
 unfoldable pub type_of : List ℕ → CallType
 type_of field =
     if bars field == 1
-    then record { formal = plain (before_first (λ b. b == 124) field); actual = plain (after_first (λ b. b == 124) field) }
+    then record { formal = plain (before_mark 124 field); actual = plain (after_mark 124 field) }
     else record { formal = plain field; actual = plain field }
 
 -- a type with an empty part

@@ -1,9 +1,9 @@
 ghost use Rattle.std.specs.Prelude.{◌≡◌, ◌≤◌, ◌==◌, [], length, IfOk, OnOk, ◌++◌, ◌∷◌, List, ℕ, true, false, if◌then◌else◌};
-ghost use Rattle.std.specs.List.{count_by, list_any, list_all, position_or_len, before_first, after_first};
+ghost use Rattle.std.specs.List.{count_by, list_any, list_all};
 ghost use Rattle.nx_base.specs.TextBytes.{is_line_blank as is_a_line_blank, is_word_byte as is_a_word_byte};
 ghost use Rattle.nx_calls.specs.Types.{is_far as is_the_word_far, without_far, between_blanks, added, plain, bars, is_union, type_of, is_bad as has_empty_part};
 
-use nx_base::{Bytes, is_line_blank, is_word_byte, trim_start};
+use nx_base::{Bytes, cut, is_line_blank, is_word_byte, trim_start};
 use std::alloc::{AllocError, Global};
 
 /// A type of a row: what a program declares, and what is passed. Without a bar both are the same.
@@ -94,41 +94,6 @@ fn plain(alloc: Global, part: &[u8]) -> Result<Bytes, AllocError>
     single_blanks(alloc, trim_start(kept.as_slice()))
 }
 
-fn is_bar(byte: u8) -> bool
-    ensures { result ≡ (byte == 124) }
-{
-    byte == b'|'
-}
-
-/// The place of the first bar, or the length where there is none.
-fn place_of_bar(field: &[u8]) -> usize
-    ensures place { result ≡ position_or_len (λ b. b == 124) field.now }
-    ensures within { result ≤ length field.now }
-{
-    let mut place = 0;
-    let mut rest = field;
-    while let [first, others @ ..] = rest {
-        if is_bar(*first) {
-            return place;
-        }
-        place += 1;
-        rest = others;
-    }
-    place
-}
-
-/// What stands before the first bar, and what stands after it.
-fn sides(field: &[u8]) -> (&[u8], &[u8])
-    ensures before { result.0.now ≡ before_first (λ b. b == 124) field.now }
-    ensures after { result.1.now ≡ after_first (λ b. b == 124) field.now }
-{
-    let place = place_of_bar(field);
-    if place < field.len() {
-        return (&field[..place], &field[place + 1..]);
-    }
-    (field, &[])
-}
-
 fn bars(field: &[u8]) -> usize
     ensures { result ≡ bars field.now }
 {
@@ -149,7 +114,7 @@ impl CallType {
         ensures { IfOk result (λ t. t ≡ type_of field.now) }
     {
         if bars(field) == 1 {
-            let (before, after) = sides(field);
+            let (before, after) = cut(field, b'|');
             let formal = plain(alloc, before)?;
             let actual = plain(alloc, after)?;
             return Ok(CallType { formal, actual });

@@ -2,7 +2,6 @@ pub mod Choices
 pub mod Entries
 pub mod LineByLine
 pub mod Lines
-pub mod Marks
 pub mod Ranges
 pub mod Configuration
 pub mod Texts

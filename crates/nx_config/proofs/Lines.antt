@@ -10,7 +10,8 @@ use Rattle.std.specs.List.{list_any, onto_first, position_or_len, before_first, 
 use Rattle.std.proofs.Math.Numerals.{one-add}
 use Rattle.nx_config.specs.declared.value.Assignment.{Assignment}
 use Rattle.nx_config.proofs.Entries.{keys_put, lookup_put}
-use Rattle.nx_config.specs.Line.{before_mark, after_mark, says}
+use Rattle.nx_base.specs.TextBytes.{before_mark, after_mark}
+use Rattle.nx_config.specs.Line.{says}
 use Rattle.nx_config.specs.Lines.{Entry, lines_of, entries_of, entry_at, last_of, fault_after, fault_at, line_fault}
 use Rattle.nx_config.proofs.LineByLine.{entries_from, entries_by_line, fault_from, fault_by_line, option_or_assoc, option_or_none}
 use Rattle.nx_config.specs.declared.fault.Stop.{Stop}

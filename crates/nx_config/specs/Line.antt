@@ -1,6 +1,6 @@
 -- What one line says.
 use Rattle.std.specs.Prelude.{◌≡◌, ℕ, ◌==◌, Bool, false, ◌&&◌, if◌then◌else◌, List, [], ◌∷◌, codes, Option, None, Some, Result, Ok, Err, ℤ}
-use Rattle.std.specs.List.{list_all, list_any, before_first, after_first}
+use Rattle.std.specs.List.{list_all, list_any}
 use Rattle.std.specs.Str.{bytes_eq}
 use Rattle.nx_config.specs.declared.fault.ConfigKind.{ConfigKind}
 use Rattle.nx_config.specs.declared.fault.ConfigKind.TheVariants.{BadLine}
@@ -9,17 +9,9 @@ use Rattle.nx_config.specs.declared.fault.Stop.TheVariants.{Memory, Fault}
 use Rattle.nx_config.specs.declared.value.Value.{Value}
 use Rattle.nx_config.specs.declared.value.Value.TheVariants.{Yes, Number, Text}
 use Rattle.nx_config.specs.declared.value.Assignment.{Assignment}
-use Rattle.nx_base.specs.TextBytes.{is_line_blank, is_word_byte, trimmed_of}
+use Rattle.nx_base.specs.TextBytes.{before_mark, after_mark, is_line_blank, is_word_byte, trimmed_of}
 use Rattle.nx_config.specs.Numbers.{integer_of}
 use Rattle.nx_config.specs.Quoted.{quoted}
-
--- what stands before the first mark, or all where there is none
-abbrev pub before_mark : ℕ → List ℕ → List ℕ
-before_mark mark bs = before_first (λ b. b == mark) bs
-
--- what stands after the first mark, or nothing where there is none
-abbrev pub after_mark : ℕ → List ℕ → List ℕ
-after_mark mark bs = after_first (λ b. b == mark) bs
 
 -- one letter, digit or `_` or more
 abbrev pub is_name : List ℕ → Bool

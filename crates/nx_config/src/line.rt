@@ -1,6 +1,6 @@
 ghost use Rattle.std.specs.Prelude.{◌≡◌, ◌==◌, ◌<◌, ◌≤◌, length, IfOk, IfErr, Ok, false};
-ghost use Rattle.std.specs.List.{list_any, position_or_len};
-ghost use Rattle.nx_config.specs.Line.{before_mark, after_mark, is_name as is_a_name, value_of, text_or, number_or, assigned, unset, trimmed_says, says, IsReadAs};
+ghost use Rattle.std.specs.List.{list_any};
+ghost use Rattle.nx_config.specs.Line.{is_name as is_a_name, value_of, text_or, number_or, assigned, unset, trimmed_says, says, IsReadAs};
 ghost use Rattle.nx_config.specs.Numbers.{integer_of};
 ghost use Rattle.nx_config.specs.Quoted.{quoted};
 
@@ -8,44 +8,8 @@ use crate::fault::{ConfigKind, Stop};
 use crate::number::integer;
 use crate::quoted::quoted_text;
 use crate::value::{Assignment, Value};
-use nx_base::{Bytes, are_word_bytes, trimmed};
+use nx_base::{Bytes, are_word_bytes, cut, trimmed};
 use std::alloc::Global;
-
-fn is_mark(byte: u8, mark: u8) -> bool
-    ensures { result ≡ (byte == mark) }
-{
-    byte == mark
-}
-
-/// The place of the first mark, or the length where there is none.
-fn place_of(bytes: &[u8], mark: u8) -> usize
-    ensures place { result ≡ position_or_len (λ b. b == mark) bytes.now }
-    ensures within { result ≤ length bytes.now }
-{
-    let mut place = 0;
-    let mut rest = bytes;
-    while let [first, others @ ..] = rest {
-        if is_mark(*first, mark) {
-            return place;
-        }
-        place += 1;
-        rest = others;
-    }
-    place
-}
-
-/// What stands before the first mark, and what stands after it.
-pub fn cut(bytes: &[u8], mark: u8) -> (&[u8], &[u8])
-    ensures before { result.0.now ≡ before_mark mark bytes.now }
-    ensures after { result.1.now ≡ after_mark mark bytes.now }
-    ensures shorter { 0 < length bytes.now → length result.1.now < length bytes.now }
-{
-    let place = place_of(bytes, mark);
-    if place < bytes.len() {
-        return (&bytes[..place], &bytes[place + 1..]);
-    }
-    (bytes, &[])
-}
 
 fn is_name(bytes: &[u8]) -> bool
     ensures { result ≡ is_a_name bytes.now }

@@ -6,10 +6,10 @@ ghost use Rattle.nx_config.specs.Line.{says};
 ghost use Rattle.nx_config.specs.Reading.{IsLineTaken, AreLinesTaken, stopped};
 
 use crate::fault::{ConfigFault, ConfigKind, Stop};
-use crate::line::{cut, read_line};
+use crate::line::read_line;
 use crate::table::Table;
 use crate::value::{Assignment, Kept};
-use nx_base::Bytes;
+use nx_base::{Bytes, cut};
 use std::alloc::Global;
 
 /// How many distinct names there may be.

@@ -53,6 +53,7 @@ impl<'a> Spelling<'a> {
 /// A token of a C program.
 #[derive(Debug, Drop)]
 pub struct Token<'a> {
+    /// What kind of token it is.
     pub kind: TokenKind,
     /// Its bytes in the text, or in the `#define` line that gave it.
     pub text: Spelling<'a>,
@@ -63,7 +64,9 @@ pub struct Token<'a> {
 /// A token at the start of a text.
 #[derive(Debug, Drop)]
 pub struct Word<'a> {
+    /// What kind of token it is.
     pub kind: TokenKind,
+    /// Its bytes.
     pub text: Spelling<'a>,
     /// What stands after it.
     pub rest: Spelling<'a>,

@@ -4,6 +4,8 @@ use thiserror::Error;
 #[derive(Clone, Copy, Debug, PartialEq, Eq, Error)]
 #[error("{need} frames are needed and {free} are free")]
 pub struct TooFew {
+    /// How many frames were wanted.
     pub need: u32,
+    /// How many were free.
     pub free: u32,
 }

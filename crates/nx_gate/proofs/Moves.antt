@@ -129,7 +129,7 @@ proxy_calls number k r v n h size b a fits s =
     record {
       regs = advance went.regs;
       reaches = reaches_call (length (before_call number k)) (k + 2) r v to _ (omega (arith, long)) went call;
-      behind = ends.pc_is ∙ omega arith;
+      after = ends.pc_is ∙ omega arith;
       number_is = holds 10 ∙ put_there (temps_in (moves k) (reg r)) 10 _ 10 refl ∙ ap (λ m. plus m (pos number)) (kept k (reg r) 0 (λ l. omega (arith, l))) ∙ plus_from_zero r number (omega arith);
       arguments = λ i l. holds (11 + i) ∙ put_elsewhere (temps_in (moves k) (reg r)) 10 _ (11 + i) (λ e. omega (arith, e)) ∙ moved k (reg r) i (λ j m. b j) l;
       others = λ j o. holds j ∙ put_elsewhere (temps_in (moves k) (reg r)) 10 _ j (not_moved k j o) ∙ kept k (reg r) j (not_argument k j o);

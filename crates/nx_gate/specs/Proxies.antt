@@ -29,7 +29,7 @@ Stand v at (w ∷ ws) = (fetch_word v at ≡ Ok w) × Stand v (at + 4) ws
 pub record Calls (number k : ℕ) (r : Regs) (v : View) : Type 0 where
   pub regs : Regs
   pub reaches : ReachesCall (k + 2) r v regs v
-  pub behind : regs.pc ≡ r.pc + 4 * (k + 2)
+  pub after : regs.pc ≡ r.pc + 4 * (k + 2)
   pub number_is : reg regs 10 ≡ number
   pub arguments : (i : ℕ) → i < k → reg regs (11 + i) ≡ reg r (10 + i)
   pub others : (j : ℕ) → (j < 10) ⊎ (10 + k < j) → reg regs j ≡ reg r j

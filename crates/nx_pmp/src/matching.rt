@@ -17,7 +17,9 @@ pub enum Matching {
 /// A range of byte addresses, from `from` up to `to`, which is outside.
 #[derive(Clone, Copy, Debug, PartialEq, Eq, Drop)]
 pub struct Range {
+    /// The first address, in bytes.
     pub from: u64,
+    /// The address after the last one, in bytes.
     pub to: u64,
 }
 

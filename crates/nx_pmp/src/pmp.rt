@@ -8,13 +8,16 @@ use nx_base::{Access, Mode};
 /// 33 to 2 of an address. RISC-V Privileged Architecture 1.12, section 3.7.1.
 #[derive(Clone, Copy, Debug, PartialEq, Eq, Drop)]
 pub struct PmpEntry {
+    /// The configuration: R, W, X, A and L, in the manual's bits.
     pub cfg: u8,
+    /// Bits 33 to 2 of an address.
     pub addr: u32,
 }
 
 /// The sixteen entries. The one with the lowest number that matches any byte of an access decides.
 #[derive(Clone, Copy, Debug, PartialEq, Eq, Drop)]
 pub struct Pmp {
+    /// By their numbers, from 0.
     pub entries: [PmpEntry; 16],
 }
 

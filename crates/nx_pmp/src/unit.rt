@@ -9,9 +9,13 @@ use std::marker::Model;
 /// What a unit is asked: whether an access to the `len` bytes at an address is allowed in a mode.
 #[derive(Clone, Copy, Debug, PartialEq, Eq, Drop)]
 pub struct Question {
+    /// The address of the first byte.
     pub at: u32,
+    /// How many bytes, 1 to 4.
     pub len: u32,
+    /// What is done with them.
     pub access: Access,
+    /// The privilege mode in which it is done.
     pub mode: Mode,
 }
 

@@ -3,9 +3,11 @@ use nx_base::{Bytes, Text};
 /// A program's part of an image. Addresses are those that the program sees, in bytes.
 #[derive(Debug, Drop)]
 pub struct ProgImage {
+    /// The program's name, as the shell runs it.
     pub name: Text,
     /// Where the text stands.
     pub text_at: u32,
+    /// Its bytes: stubs, proxies, functions and literals.
     pub text: Bytes,
     /// Where the data stand.
     pub data_at: u32,

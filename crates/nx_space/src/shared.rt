@@ -16,8 +16,11 @@ pub const RAM_START: u32 = 0x80000000;
 /// A group that has a view, the place of its program, and the slot of its main thread.
 #[derive(Clone, Copy, Debug, Drop)]
 pub struct Live {
+    /// The group's number.
     pub number: u32,
+    /// The place of its program, from 0.
     pub program: usize,
+    /// The slot of its main thread, from 0.
     pub slot: u32,
 }
 

@@ -1,5 +1,6 @@
 use Rattle.std.proofs.Common.{◌<◌, length, ◌∙◌, sym, rules, arith}
-use Rattle.nx_config.specs.Line.{before_mark, says}
+use Rattle.nx_base.specs.TextBytes.{before_mark}
+use Rattle.nx_config.specs.Line.{says}
 use Rattle.nx_config.specs.Reading.{AddsLine, IsRefused}
 use Rattle.nx_config.proofs.Lines.{faults_start, values_start, faults_after, values_after, refused_here}
 use Rattle.nx_config.proofs.read.read_lines.Goals as goal

@@ -1,6 +1,6 @@
 use Rattle.std.proofs.Common.{rules, sym, ◌∙◌}
-use Rattle.nx_config.proofs.Marks.{mark_step}
-use Rattle.nx_config.proofs.line.place_of.Goals as goal
+use Rattle.nx_base.proofs.Marks.{mark_step}
+use Rattle.nx_base.proofs.cutting.place_of.Goals as goal
 
 pub loop-rest-preserved : goal.loop-rest-preserved
 loop-rest-preserved c = record {
