@@ -1,0 +1,17 @@
+pub mod Telling
+pub mod Threads
+pub mod State
+pub mod Paths
+pub mod Answers
+pub mod Descriptors
+pub mod FileCalls
+pub mod TreeCalls
+pub mod Ends
+pub mod GroupCalls
+pub mod ThreadCalls
+pub mod Step
+pub mod Picking
+pub mod Told
+pub mod Boot
+pub mod Gathered
+pub mod Laws

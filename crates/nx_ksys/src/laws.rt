@@ -1,0 +1,26 @@
+ghost use Rattle.nx_ksys.specs.Laws.{CallsCountOne, ConsolesGrow, PointersMeanNothing, PickingIsStill, ChosenAgain, EndedWithoutGroups};
+
+/// A law: each call counts one, whatever it answers.
+pub fn a_call_counts_one()
+    ensures { CallsCountOne }
+{}
+
+/// A law: what the console showed stays, and a call only adds to it.
+pub fn a_console_only_grows()
+    ensures { ConsolesGrow }
+{}
+
+/// A law: a call does and answers the same whatever its pointers are, and a new thread's entry:
+/// what matters of them are the bytes that were taken from them.
+pub fn pointers_mean_nothing_to_the_kernel()
+    ensures { PointersMeanNothing }
+{}
+
+/// A law: choosing the thread to run makes no call, writes nothing and ends no group, also where
+/// time passes for it. Choosing again chooses the same. A run is ended exactly where no group is
+/// left.
+pub fn choosing_changes_nothing_that_is_reported()
+    ensures still { PickingIsStill }
+    ensures again { ChosenAgain }
+    ensures ended { EndedWithoutGroups }
+{}

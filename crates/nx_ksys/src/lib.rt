@@ -1,0 +1,25 @@
+//! What the kernel means: its state, its calls and its schedule as plain data, in `specs/`, one
+//! file for each subsystem; and the small types that the kernel's code and these definitions share.
+#![tactic(auto)]
+
+mod cooked;
+mod laws;
+mod node;
+mod payload;
+mod pick;
+mod replies;
+mod thread;
+
+pub use cooked::Cooked;
+pub use laws::{
+    a_call_counts_one, a_console_only_grows, choosing_changes_nothing_that_is_reported,
+    pointers_mean_nothing_to_the_kernel,
+};
+pub use node::{Node, NodeKind, Open, Target};
+pub use payload::{MOST_MOVED, Payload};
+pub use pick::Pick;
+pub use replies::{Replies, Reply};
+pub use thread::{Asked, Doing, Search, Thread, Wait};
+
+#[cfg(test)]
+mod tests;
