@@ -1,7 +1,8 @@
 #!/bin/bash
-# Measures the machine: crates/nx_loop and the plain interpreter of scripts/interpreter.c run the
-# same loop of RV32I instructions, one after the other. This prints how many instructions each makes
-# in a second of processor time, and the ratio of the two.
+# Measures the machine in each layout: crates/nx_loop and the plain interpreter of
+# scripts/interpreter.c run the same loop of RV32I instructions, one after the other. This prints how
+# many instructions each makes in a second of processor time, and the machine's speed as a part of the
+# interpreter's.
 #
 #     scripts/benchmark.sh [COUNT]      COUNT instructions, 50000000 where none is given
 #
@@ -21,7 +22,10 @@ scripts=$(cd "$(dirname "$0")" && pwd)
 folder=$(mktemp -d)
 trap 'rm -rf "$folder"' EXIT
 
-(cd "$scripts/../crates/nx_loop" && rt run -- 0) | sed -n 's/^words //p' >"$folder/words"
+layouts=(flat protected)
+
+# Proves and builds nx_loop, and keeps the loop's words.
+(cd "$scripts/../crates/nx_loop" && rt run -- flat 0) | sed -n 's/^words //p' >"$folder/words"
 gcc -O2 -o "$folder/interpreter" "$scripts/interpreter.c"
 
 # The processor seconds of a command, whose output goes into a file.
@@ -31,18 +35,20 @@ seconds() {
     { time "$@" >"$out"; } 2>&1
 }
 
-machine=$(seconds "$folder/machine.out" "$scripts/../crates/nx_loop/out/nx_loop" "$count")
 plain=$(seconds "$folder/plain.out" "$folder/interpreter" "$folder/words" "$count")
-sed -i '/^words/d' "$folder/machine.out"
-cat "$folder/machine.out"
-if ! cmp -s "$folder/machine.out" "$folder/plain.out"; then
-    echo "the plain interpreter ends otherwise:"
-    cat "$folder/plain.out"
-    exit 1
-fi
-
-awk -v n="$count" -v machine="$machine" -v plain="$plain" 'BEGIN {
-    printf "nx_loop: %.2f s, %.1f million instructions a second\n", machine, n / machine / 1e6
+cat "$folder/plain.out"
+awk -v n="$count" -v plain="$plain" 'BEGIN {
     printf "interpreter.c: %.2f s, %.1f million instructions a second\n", plain, n / plain / 1e6
-    printf "nx_loop takes %.2f times as long\n", machine / plain
 }'
+for layout in "${layouts[@]}"; do
+    machine=$(seconds "$folder/machine.out" "$scripts/../crates/nx_loop/out/nx_loop" "$layout" "$count")
+    sed -i '/^words/d' "$folder/machine.out"
+    if ! cmp -s "$folder/machine.out" "$folder/plain.out"; then
+        echo "nx_loop $layout ends otherwise:"
+        cat "$folder/machine.out"
+        exit 1
+    fi
+    awk -v n="$count" -v machine="$machine" -v plain="$plain" -v layout="$layout" 'BEGIN {
+        printf "nx_loop %s: %.2f s, %.1f million instructions a second, %.2f of the interpreter\n", layout, machine, n / machine / 1e6, plain / machine
+    }'
+done

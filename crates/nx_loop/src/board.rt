@@ -1,10 +1,10 @@
-ghost use Rattle.std.specs.Prelude.{◌≡◌, [], length, IfOk};
+ghost use Rattle.std.specs.Prelude.{◌≡◌, ◌<◌, [], length, IfOk};
 ghost use Rattle.nx_space.specs.World.{IsEntered};
 
 use crate::turns::{TURN_WORDS, turn_words};
 use nx_base::{Bytes, OutOfMemory, Regs, Text};
 use nx_ram::{ProgImage, Ram};
-use nx_space::{FlatSpace, RAM_START, Space};
+use nx_space::{FlatSpace, PmpSpace, RAM_START, Space};
 use std::alloc::Global;
 
 // Room for the loop, its word in memory and one stack.
@@ -12,13 +12,18 @@ const RAM_BYTES: u32 = 65536;
 
 const STACK_BYTES: u32 = 4096;
 
+// Where the data begin, and the stack: the loop's word stands between them.
+const DATA_AT: u32 = RAM_START + 4096;
+
+const STACKS_AT: u32 = RAM_START + 61440;
+
 const GROUP: u32 = 1;
 
 /// A space with one group, which is entered, and the registers that it starts with.
 #[derive(Drop)]
-pub struct Board {
+pub struct Board<S> {
     /// The space, in which group 1 is entered.
-    pub space: FlatSpace,
+    pub space: S,
     /// The registers of the group's main thread.
     pub regs: Regs,
 }
@@ -37,14 +42,16 @@ fn loaded_ram(alloc: Global) -> Result<Ram, OutOfMemory>
 
 // A program at the RAM's first byte, with no data.
 fn program(alloc: Global) -> Result<ProgImage, OutOfMemory>
-    ensures data_at { IfOk result (λ program. program.data_at ≡ RAM_START) }
+    ensures text_at { IfOk result (λ program. program.text_at ≡ RAM_START) }
+    ensures text { IfOk result (λ program. program.text ≡ []) }
+    ensures data_at { IfOk result (λ program. program.data_at ≡ DATA_AT) }
     ensures init { IfOk result (λ program. program.init ≡ []) }
 {
     Ok(ProgImage {
         name: Text::from_str(alloc, "loop")?,
         text_at: RAM_START,
         text: Bytes::new(alloc),
-        data_at: RAM_START,
+        data_at: DATA_AT,
         init: Bytes::new(alloc),
         main: RAM_START,
         end_group: RAM_START,
@@ -52,23 +59,48 @@ fn program(alloc: Global) -> Result<ProgImage, OutOfMemory>
     })
 }
 
-impl Board {
-    /// A board that stands before the loop's first instruction.
-    #[tactic(auto, unfolding(nx_space::specs::World::has_view))]
-    pub fn new(alloc: Global) -> Result<Board, OutOfMemory>
-        ensures { IfOk result (λ board. IsEntered (⟦<FlatSpace as Space>⟧.world board.space)) }
-    {
-        let ram = loaded_ram(alloc)?;
-        let mut programs = Vec::new(alloc);
-        programs.push(program(alloc)?)?;
-        let stacks_at = RAM_START + (RAM_BYTES - STACK_BYTES);
-        let mut space = FlatSpace::new(alloc, ram, programs, stacks_at, STACK_BYTES, 1)?;
-        match space.start(GROUP, 0, 0, true) {
-            Ok(regs) => {
-                space.enter(GROUP);
-                Ok(Board { space, regs })
-            }
-            Err(_) => Err(OutOfMemory),
+// Starts a group in a space without one.
+#[tactic(auto, unfolding(nx_space::specs::World::has_view))]
+fn started<S: Space + Drop>(mut space: S) -> Result<Board<S>, OutOfMemory>
+    requires none { (S.world space).groups ≡ [] }
+    requires threads { 0 < (S.world space).plan.threads }
+    requires programs { 0 < length (S.world space).plan.programs }
+    ensures { IfOk result (λ board. IsEntered (S.world board.space)) }
+{
+    match space.start(GROUP, 0, 0, true) {
+        Ok(regs) => {
+            space.enter(GROUP);
+            Ok(Board { space, regs })
         }
+        Err(_) => Err(OutOfMemory),
     }
+}
+
+/// A board over one window that stands before the loop's first instruction.
+pub fn flat_board(alloc: Global) -> Result<Board<FlatSpace>, OutOfMemory>
+    ensures { IfOk result (λ board. IsEntered (⟦<FlatSpace as Space>⟧.world board.space)) }
+{
+    let ram = loaded_ram(alloc)?;
+    let mut programs = Vec::new(alloc);
+    programs.push(program(alloc)?)?;
+    started(FlatSpace::new(alloc, ram, programs, STACKS_AT, STACK_BYTES, 1)?)
+}
+
+/// The same behind protection entries, which are asked at each fetch, load and store.
+pub fn protected_board(alloc: Global) -> Result<Board<PmpSpace>, OutOfMemory>
+    ensures { IfOk result (λ board. IsEntered (⟦<PmpSpace as Space>⟧.world board.space)) }
+{
+    let ram = loaded_ram(alloc)?;
+    let mut programs = Vec::new(alloc);
+    programs.push(program(alloc)?)?;
+    started(PmpSpace::new(
+        alloc,
+        ram,
+        programs,
+        RAM_START,
+        DATA_AT,
+        STACKS_AT,
+        STACK_BYTES,
+        1,
+    )?)
 }
