@@ -1,0 +1,6 @@
+pub mod LinkLemmas
+pub mod GrowthLemmas
+pub mod EffectLemmas
+pub mod PayloadLemmas
+pub mod StoreLemmas
+pub mod Holders

@@ -1,0 +1,4 @@
+pub mod Chains
+pub mod Apart
+pub mod Effects
+pub mod Moves
