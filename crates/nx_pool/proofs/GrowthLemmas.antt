@@ -10,8 +10,7 @@ use Rattle.nx_pool.specs.Effects.{Becomes}
 use Rattle.nx_pool.proofs.LinkLemmas.{occurs-append, occurs-one, one_if-same, one_if-small, one_if-below, uses-append, uses-cons, total_blocks-append, total_blocks-cons, blocks_from-more, block_at-more, OtherLinksStay, OtherBytesStay, other_bytes_stay, block_at-stays, blocks_from-stays, uses-stays, occurs-block_at, other_block, blocks_differ, map-range, contents-stay, alone, apart_once, apart_inside}
 
 -- one zero more in the block x, where the link of the block b alone may have changed
-pub record Grows (next next' free free' bytes : List ℕ) (b x : ℕ) (c c' : Chain) : Type 0 where
-  pub whole : length bytes ≡ 64 * length next
+pub record Grows (next next' free free' : List ℕ) (b x : ℕ) (c c' : Chain) : Type 0 where
   pub len : length next' ≡ length next
   pub inside : x < length next
   pub links : OtherLinksStay b next next'
@@ -24,13 +23,12 @@ pub record Grows (next next' free free' bytes : List ℕ) (b x : ℕ) (c c' : Ch
   pub own_b : 1 ≤ occurs b free + occurs b (blocks_of next c)
   pub own_x : 1 ≤ occurs x free + occurs x (blocks_of next c)
 
-content_grows : (next next' free free' bytes : List ℕ) (b x : ℕ) (c c' : Chain) → Grows next next' free free' bytes b x c c' → content_of (slice_set bytes (64 * x + c.bytes % 64) 0) next' c' ≡ content_of bytes next c ++ 0 ∷ []
+content_grows : (next next' free free' bytes : List ℕ) (b x : ℕ) (c c' : Chain) → Grows next next' free free' b x c c' → length bytes ≡ 64 * length next → content_of (slice_set bytes (64 * x + c.bytes % 64) 0) next' c' ≡ content_of bytes next c ++ 0 ∷ []
 unfolding content_of
-content_grows next next' free free' bytes b x c c' g =
+content_grows next next' free free' bytes b x c c' g whole =
     let n = c.bytes in
     let bytes' = slice_set bytes (64 * x + n % 64) 0 in
     let f' = byte_at bytes' next' c' in
-    let whole = g.whole in
     let inside = g.inside in
     let e1 = ap (λ m. map f' (range_with_len 0 m)) g.long in
     let e2 = map-range_with_len_more f' 0 n n (omega arith) in
@@ -45,9 +43,9 @@ content_grows next next' free free' bytes b x c c' g =
     let e4 : f' n ≡ 0 = ap (λ q. slice_index bytes' (64 * q + n % 64)) g.last ∙ get_or-set_same bytes (64 * x + n % 64) 0 0 (omega arith) in
     e1 ∙ e2 ∙ ap (λ xs. xs ++ f' n ∷ []) e3 ∙ ap (λ v. map (byte_at bytes next c) (range_with_len 0 n) ++ v ∷ []) e4
 
-grown : (next next' free free' bytes : List ℕ) (b x : ℕ) (c c' : Chain) → Grows next next' free free' bytes b x c c'
+grown : (next next' free free' bytes : List ℕ) (b x : ℕ) (c c' : Chain) → Grows next next' free free' b x c c' → length bytes ≡ 64 * length next
     → Becomes (AreApart next free) (AreApart next' free') (content_of bytes next) (content_of (slice_set bytes (64 * x + c.bytes % 64) 0) next') c c' (content_of bytes next c ++ 0 ∷ [])
-grown next next' free free' bytes b x c c' g =
+grown next next' free free' bytes b x c c' g whole =
     let bytes' = slice_set bytes (64 * x + c.bytes % 64) 0 in
     let stay = other_bytes_stay bytes x (c.bytes % 64) 0 (omega arith) in
     let filled = g.filled in
@@ -77,11 +75,11 @@ grown next next' free free' bytes b x c c' g =
             before = contents-stay b x next next' bytes bytes' xs g.links stay (omega arith) (omega arith);
             after = contents-stay b x next next' bytes bytes' ys g.links stay (omega arith) (omega arith);
           };
-      own = content_grows next next' free free' bytes b x c c' g;
+      own = content_grows next next' free free' bytes b x c c' g whole;
     }
 
-stays_apart : (next next' free free' bytes : List ℕ) (b x : ℕ) (c c' : Chain) → Grows next next' free free' bytes b x c c' → IsApart next free c → IsApart next' free' c'
-stays_apart next next' free free' bytes b x c c' g a = record { once = λ q. omega (arith, a.once q, g.count q, ap (λ m. one_if (nat_lt q m)) g.len) }
+stays_apart : (next next' free free' : List ℕ) (b x : ℕ) (c c' : Chain) → Grows next next' free free' b x c c' → IsApart next free c → IsApart next' free' c'
+stays_apart next next' free free' b x c c' g a = record { once = λ q. omega (arith, a.once q, g.count q, ap (λ m. one_if (nat_lt q m)) g.len) }
 
 -- the chain with one byte more, from the same first block
 abbrev pub longer : Chain → Chain
@@ -89,9 +87,9 @@ longer c = record { first = c.first; bytes = c.bytes + 1 }
 
 -- ---- in the last block
 
-grows_inside : (next free bytes : List ℕ) (c : Chain) → length bytes ≡ 64 * length next → IsApart next free c → c.bytes % 64 ≢ 0
-    → Grows next next free free bytes (block_at next c.first (c.bytes / 64)) (block_at next c.first (c.bytes / 64)) c (longer c)
-grows_inside next free bytes c whole h part =
+grows_inside : (next free : List ℕ) (c : Chain) → IsApart next free c → c.bytes % 64 ≢ 0
+    → Grows next next free free (block_at next c.first (c.bytes / 64)) (block_at next c.first (c.bytes / 64)) c (longer c)
+grows_inside next free c h part =
     let k = c.bytes / 64 in
     let x = block_at next c.first k in
     let n = blocks_for c.bytes in
@@ -99,7 +97,6 @@ grows_inside next free bytes c whole h part =
     let in_path : 1 ≤ occurs x (blocks_of next c) = occurs-block_at next c.first n k (omega arith) in
     let more : blocks_for (c.bytes + 1) ≡ n = omega arith in
     record {
-      whole = whole;
       len = refl;
       inside = apart_inside next free c h k (omega arith);
       links = λ q ne. refl;
@@ -119,10 +116,10 @@ inside_becomes next free bytes last c whole h part is =
     let k : (c.bytes - 1) / 64 ≡ c.bytes / 64 = omega arith in
     let e : block_at next c.first (c.bytes / 64) ≡ last = sym (is ∙ ap (block_at next c.first) k) in
     subst (λ q. Becomes (AreApart next free) (AreApart next free) (content_of bytes next) (content_of (slice_set bytes (64 * q + c.bytes % 64) 0) next) c (longer c) (content_of bytes next c ++ 0 ∷ [])) e
-    (grown _ _ _ _ _ _ _ _ _ (grows_inside next free bytes c whole h part))
+    (grown _ _ _ _ bytes _ _ _ _ (grows_inside next free c h part) whole)
 
-pub inside_apart : (next free bytes : List ℕ) (c : Chain) → length bytes ≡ 64 * length next → IsApart next free c → c.bytes % 64 ≢ 0 → IsApart next free (longer c)
-inside_apart next free bytes c whole h part = stays_apart _ _ _ _ _ _ _ _ _ (grows_inside next free bytes c whole h part) h
+pub inside_apart : (next free : List ℕ) (c : Chain) → IsApart next free c → c.bytes % 64 ≢ 0 → IsApart next free (longer c)
+inside_apart next free c h part = stays_apart _ _ _ _ _ _ _ _ (grows_inside next free c h part) h
 
 pub last_inside : (next free : List ℕ) (last : ℕ) (c : Chain) → IsApart next free c → 0 < c.bytes → last ≡ block_at next c.first ((c.bytes - 1) / 64) → last < length next
 last_inside next free last c h some is = subst (λ q. q < length next) (sym is) (apart_inside next free c h ((c.bytes - 1) / 64) (omega arith))
@@ -143,24 +140,26 @@ popped_inside next free free' x c h e = one_if-below x (length next) (omega (ari
 
 -- ---- the first block
 
-grows_first : (next free free' bytes : List ℕ) (x : ℕ) (c : Chain) → length bytes ≡ 64 * length next → IsApart next free c → c.bytes ≡ 0 → free ≡ free' ++ x ∷ []
-    → Grows next next free free' bytes x x c (record { first = x; bytes = c.bytes + 1 })
+-- a chain of one byte
+abbrev pub begun : ℕ → Chain
+begun x = record { first = x; bytes = 1 }
+
+grows_first : (next free free' : List ℕ) (x : ℕ) (c : Chain) → IsApart next free c → c.bytes ≡ 0 → free ≡ free' ++ x ∷ []
+    → Grows next next free free' x x c (begun x)
 unfolding blocks_from block_at occurs
-grows_first next free free' bytes x c whole h none is =
+grows_first next free free' x c h none is =
     let none_for : blocks_for c.bytes ≡ 0 = omega arith in
-    let one_for : blocks_for (c.bytes + 1) ≡ 1 = omega arith in
     let at : c.bytes / 64 ≡ 0 = omega arith in
     record {
-      whole = whole;
       len = refl;
       inside = popped_inside next free free' x c h is;
       links = λ q ne. refl;
-      long = refl;
+      long = omega arith;
       same = λ q l. absurd (omega arith);
       last = ap (block_at next x) at;
       fresh = λ q l ne. absurd (omega arith);
-      count = λ q. let p1 : occurs q (blocks_from next x (blocks_for (c.bytes + 1))) ≡ occurs q (x ∷ []) = ap (λ m. occurs q (blocks_from next x m)) one_for in
-          let p0 : occurs q (blocks_from next c.first (blocks_for c.bytes)) ≡ 0 = ap (λ m. occurs q (blocks_from next c.first m)) none_for in
+      count = λ q. let p1 : occurs q (blocks_of next (begun x)) ≡ occurs q (x ∷ []) = refl in
+          let p0 : occurs q (blocks_of next c) ≡ 0 = ap (λ m. occurs q (blocks_from next c.first m)) none_for in
           omega (arith, occurs-popped q x free free' is, p1, p0);
       filled = omega (arith, ap length is, length_push free' x);
       own_b = omega (arith, one-popped x free free' is);
@@ -168,14 +167,11 @@ grows_first next free free' bytes x c whole h none is =
     }
 
 pub first_becomes : (next free free' bytes : List ℕ) (x : ℕ) (c : Chain) → length bytes ≡ 64 * length next → IsApart next free c → c.bytes ≡ 0 → free ≡ free' ++ x ∷ []
-    → Becomes (AreApart next free) (AreApart next free') (content_of bytes next) (content_of (slice_set bytes (64 * x) 0) next) c (record { first = x; bytes = c.bytes + 1 }) (content_of bytes next c ++ 0 ∷ [])
-first_becomes next free free' bytes x c whole h none is =
-    let at : 64 * x + c.bytes % 64 ≡ 64 * x = omega arith in
-    subst (λ i. Becomes (AreApart next free) (AreApart next free') (content_of bytes next) (content_of (slice_set bytes i 0) next) c (record { first = x; bytes = c.bytes + 1 }) (content_of bytes next c ++ 0 ∷ [])) at
-    (grown _ _ _ _ _ _ _ _ _ (grows_first next free free' bytes x c whole h none is))
+    → Becomes (AreApart next free) (AreApart next free') (content_of bytes next) (content_of (slice_set bytes (64 * x + c.bytes % 64) 0) next) c (begun x) (content_of bytes next c ++ 0 ∷ [])
+first_becomes next free free' bytes x c whole h none is = grown _ _ _ _ bytes _ _ _ _ (grows_first next free free' x c h none is) whole
 
-pub first_apart : (next free free' bytes : List ℕ) (x : ℕ) (c : Chain) → length bytes ≡ 64 * length next → IsApart next free c → c.bytes ≡ 0 → free ≡ free' ++ x ∷ [] → IsApart next free' (record { first = x; bytes = c.bytes + 1 })
-first_apart next free free' bytes x c whole h none is = stays_apart _ _ _ _ _ _ _ _ _ (grows_first next free free' bytes x c whole h none is) h
+pub first_apart : (next free free' : List ℕ) (x : ℕ) (c : Chain) → IsApart next free c → c.bytes ≡ 0 → free ≡ free' ++ x ∷ [] → IsApart next free' (begun x)
+first_apart next free free' x c h none is = stays_apart _ _ _ _ _ _ _ _ (grows_first next free free' x c h none is) h
 
 pub first_last : (next : List ℕ) (x n : ℕ) → n ≡ 0 → x ≡ block_at next x (n / 64)
 unfolding block_at
@@ -193,9 +189,9 @@ linked_last next x last c k inside is before =
 before_last : (next free : List ℕ) (last : ℕ) (c : Chain) (k : ℕ) → IsApart next free c → suc k ≡ blocks_for c.bytes → last ≡ block_at next c.first k → (j : ℕ) → j < k → block_at next c.first j ≢ last
 before_last next free last c k h long is j l e = blocks_differ next c.first (blocks_for c.bytes) (apart_once next free c h) j k l (omega arith) (e ∙ is)
 
-grows_after : (next free free' bytes : List ℕ) (x last : ℕ) (c : Chain) → length bytes ≡ 64 * length next → IsApart next free c → c.bytes % 64 ≡ 0 → 0 < c.bytes → last ≡ block_at next c.first ((c.bytes - 1) / 64) → free ≡ free' ++ x ∷ []
-    → Grows next (slice_set next last x) free free' bytes last x c (longer c)
-grows_after next free free' bytes x last c whole h full some is pop =
+grows_after : (next free free' : List ℕ) (x last : ℕ) (c : Chain) → IsApart next free c → c.bytes % 64 ≡ 0 → 0 < c.bytes → last ≡ block_at next c.first ((c.bytes - 1) / 64) → free ≡ free' ++ x ∷ []
+    → Grows next (slice_set next last x) free free' last x c (longer c)
+grows_after next free free' x last c h full some is pop =
     let next' = slice_set next last x in
     let k = (c.bytes - 1) / 64 in
     let n = blocks_for c.bytes in
@@ -211,7 +207,6 @@ grows_after next free free' bytes x last c whole h full some is pop =
     let end = linked_last next x last c k (last_inside next free last c h some is) is apart in
     let paths : blocks_from next' c.first (suc k) ≡ blocks_from next c.first (suc k) = blocks_from-stays last next next' stay c.first (suc k) (λ j m. apart j (omega arith)) in
     record {
-      whole = whole;
       len = length-set next last x;
       inside = popped_inside next free free' x c h pop;
       links = stay;
@@ -230,15 +225,11 @@ grows_after next free free' bytes x last c whole h full some is pop =
     }
 
 pub after_becomes : (next free free' bytes : List ℕ) (x last : ℕ) (c : Chain) → length bytes ≡ 64 * length next → IsApart next free c → c.bytes % 64 ≡ 0 → 0 < c.bytes → last ≡ block_at next c.first ((c.bytes - 1) / 64) → free ≡ free' ++ x ∷ []
-    → Becomes (AreApart next free) (AreApart (slice_set next last x) free') (content_of bytes next) (content_of (slice_set bytes (64 * x) 0) (slice_set next last x)) c (longer c) (content_of bytes next c ++ 0 ∷ [])
-after_becomes next free free' bytes x last c whole h full some is pop =
-    let at : 64 * x + c.bytes % 64 ≡ 64 * x = omega arith in
-    subst (λ i. Becomes (AreApart next free) (AreApart (slice_set next last x) free') (content_of bytes next) (content_of (slice_set bytes i 0) (slice_set next last x)) c (longer c) (content_of bytes next c ++ 0 ∷ [])) at
-    (grown _ _ _ _ _ _ _ _ _ (grows_after next free free' bytes x last c whole h full some is pop))
+    → Becomes (AreApart next free) (AreApart (slice_set next last x) free') (content_of bytes next) (content_of (slice_set bytes (64 * x + c.bytes % 64) 0) (slice_set next last x)) c (longer c) (content_of bytes next c ++ 0 ∷ [])
+after_becomes next free free' bytes x last c whole h full some is pop = grown _ _ _ _ bytes _ _ _ _ (grows_after next free free' x last c h full some is pop) whole
 
-pub after_apart : (next free free' bytes : List ℕ) (x last : ℕ) (c : Chain) → length bytes ≡ 64 * length next → IsApart next free c → c.bytes % 64 ≡ 0 → 0 < c.bytes → last ≡ block_at next c.first ((c.bytes - 1) / 64) → free ≡ free' ++ x ∷ []
-    → IsApart (slice_set next last x) free' (longer c)
-after_apart next free free' bytes x last c whole h full some is pop = stays_apart _ _ _ _ _ _ _ _ _ (grows_after next free free' bytes x last c whole h full some is pop) h
+pub after_apart : (next free free' : List ℕ) (x last : ℕ) (c : Chain) → IsApart next free c → c.bytes % 64 ≡ 0 → 0 < c.bytes → last ≡ block_at next c.first ((c.bytes - 1) / 64) → free ≡ free' ++ x ∷ [] → IsApart (slice_set next last x) free' (longer c)
+after_apart next free free' x last c h full some is pop = stays_apart _ _ _ _ _ _ _ _ (grows_after next free free' x last c h full some is pop) h
 
 pub after_last : (next free : List ℕ) (x last : ℕ) (c : Chain) → IsApart next free c → c.bytes % 64 ≡ 0 → 0 < c.bytes → last ≡ block_at next c.first ((c.bytes - 1) / 64) → x ≡ block_at (slice_set next last x) c.first (c.bytes / 64)
 after_last next free x last c h full some is =

@@ -1,5 +1,5 @@
 -- The effects over the vectors of a store.
-use Rattle.std.proofs.Common.{◌≡◌, ℕ, ◌+◌, ◌-◌, ◌<◌, ◌≤◌, List, [], ◌∷◌, ◌++◌, length, refl, ap, ◌∙◌, arith, replicate}
+use Rattle.std.proofs.Common.{◌≡◌, ℕ, ◌+◌, ◌-◌, ◌<◌, ◌≤◌, List, [], ◌∷◌, ◌++◌, length, refl, sym, ap, ◌∙◌, subst, arith, replicate}
 use Rattle.std.specs.Prelude.{nat_lt}
 use Rattle.nx_pool.specs.declared.chain.Chain.{Chain}
 use Rattle.nx_pool.specs.Chains.{blocks_for, one_if, occurs, blocks_from, blocks_of, uses, total_blocks, content_of, AreFree, IsApart, AreApart}
@@ -10,8 +10,8 @@ use Rattle.nx_pool.proofs.LinkLemmas.{uses-append, uses-cons, total_blocks-appen
 abbrev pub Longer : (next free bytes next' free' bytes' : List ℕ) (c c' : Chain) (zs : List ℕ) → Type 0
 Longer next free bytes next' free' bytes' c c' zs = Becomes (AreApart next free) (AreApart next' free') (content_of bytes next) (content_of bytes' next') c c' (content_of bytes next c ++ zs)
 
-pub longer_at : (next next1 next' next1' bytes bytes1 bytes' bytes1' free free' : List ℕ) (c c' : Chain) (zs : List ℕ) → next1 ≡ next → next1' ≡ next' → bytes1 ≡ bytes → bytes1' ≡ bytes' → Longer next free bytes next' free' bytes' c c' zs → Longer next1 free bytes1 next1' free' bytes1' c c' zs
-longer_at next next1 next' next1' bytes bytes1 bytes' bytes1' free free' c c' zs e1 e2 e3 e4 h = rw (e1, e2, e3, e4) h
+pub longer_at : (next next' bytes bytes1 bytes' bytes1' free free' : List ℕ) (c c' : Chain) (zs : List ℕ) → bytes1 ≡ bytes → bytes1' ≡ bytes' → Longer next free bytes next' free' bytes' c c' zs → Longer next free bytes1 next' free' bytes1' c c' zs
+longer_at next next' bytes bytes1 bytes' bytes1' free free' c c' zs e1 e2 h = rw (e1, e2) h
 
 pub wrote_at : (next free bytes bytes1 bytes' bytes1' : List ℕ) (c : Chain) (put : List ℕ → List ℕ) → bytes1 ≡ bytes → bytes1' ≡ bytes' → Becomes (AreApart next free) (AreApart next free) (content_of bytes next) (content_of bytes' next) c c (put (content_of bytes next c)) → Becomes (AreApart next free) (AreApart next free) (content_of bytes1 next) (content_of bytes1' next) c c (put (content_of bytes1 next c))
 wrote_at next free bytes bytes1 bytes' bytes1' c put e3 e4 h = rw (e3, e4) h
@@ -44,15 +44,19 @@ pub free_after : (next free free' : List ℕ) (c : Chain) → IsHeld (AreApart n
 free_after next free free' c h count = let a = held_is_apart next free c h in record { once = λ q. omega (arith, a.once q, count q) }
 
 -- the blocks of a chain are free again
-pub given : (next free free' bytes : List ℕ) (c : Chain) → ((q : ℕ) → occurs q free' ≡ occurs q free + occurs q (blocks_of next c)) → length free' ≡ length free + blocks_for c.bytes
-    → Goes (AreApart next free) (AreApart next free') (content_of bytes next) (content_of bytes next) c
-given next free free' bytes c count long = record {
+pub given : (next free free' : List ℕ) (content : Chain → List ℕ) (c : Chain) → ((q : ℕ) → occurs q free' ≡ occurs q free + occurs q (blocks_of next c)) → length free' ≡ length free + blocks_for c.bytes
+    → Goes (AreApart next free) (AreApart next free') content content c
+given next free free' content c count long = record {
   held = λ xs ys a. record {
     once = λ q. omega (arith, a.once q, count q, uses-append next q xs (c ∷ ys), uses-cons next q c ys, uses-append next q xs ys);
     counted = omega (arith, a.counted, total_blocks-append xs (c ∷ ys), total_blocks-cons c ys, total_blocks-append xs ys);
   };
   others = λ xs ys a. record { before = refl; after = refl };
 }
+
+-- whatever the bytes of the store are, a chain's bytes are those at its blocks
+pub given_at : (next next' free free' bytes : List ℕ) (c : Chain) → next' ≡ next → ((content : Chain → List ℕ) → Goes (AreApart next free) (AreApart next' free') content content c) → Goes (AreApart next free) (AreApart next' free') (content_of bytes next) (content_of bytes next') c
+given_at next next' free free' bytes c is gone = subst (λ n. Goes (AreApart next free) (AreApart next' free') (content_of bytes next) (content_of bytes n) c) (sym is) (gone (content_of bytes next))
 
 -- there is room for the blocks of a chain
 pub room_of : (next free : List ℕ) (c : Chain) → IsHeld (AreApart next free) c → length free + blocks_for c.bytes ≤ length next

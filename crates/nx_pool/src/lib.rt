@@ -3,10 +3,9 @@
 
 mod block_store;
 mod chain;
-mod growth;
 mod laws;
-mod links;
 mod payload;
+mod pool_index;
 mod vec_blocks;
 
 pub use block_store::{BlockStore, NoBlocks};

@@ -7,3 +7,59 @@ fn a_lack_of_blocks_has_both_numbers(rt: HostRuntime) -> Result<(), Fail> {
     assert_eq!(rt; text.as_str(), "5 blocks are needed and 3 are free");
     Ok(())
 }
+
+#[test]
+fn sixteen_blocks_have_1024_bytes(rt: HostRuntime) -> Result<(), Fail> {
+    let mut store = VecBlocks::new(rt.alloc(), 16)?;
+    assert_eq!(rt; store.free(), 16);
+    let mut chain = store.take_chain(1024)?;
+    assert_eq!(rt; store.free(), 0);
+    match store.grow(&mut chain, 1025) {
+        Ok(()) => assert!(rt; false),
+        Err(refused) => assert_eq!(rt; refused, NoBlocks { need: 1, free: 0 }),
+    }
+    assert_eq!(rt; chain.bytes(), 1024);
+    store.give(chain);
+    assert_eq!(rt; store.free(), 16);
+    Ok(())
+}
+
+#[test]
+fn a_write_crosses_borders_and_leaves_the_other_chain(rt: HostRuntime) -> Result<(), Fail> {
+    let mut store = VecBlocks::new(rt.alloc(), 8)?;
+    let long = store.take_chain(150)?;
+    let short = store.take_chain(5)?;
+    assert_eq!(rt; store.free(), 4);
+    store.write(&short, 0, b"short");
+    store.write(&long, 60, b"over one border");
+    store.write(&long, 126, b"over");
+    let mut read = [0; 17];
+    store.read(&long, 59, &mut read);
+    assert_eq!(rt; read.as_slice(), b"\0over one border\0".as_slice());
+    let mut end = [7; 24];
+    store.read(&long, 126, &mut end);
+    assert_eq!(rt;
+        end.as_slice(),
+        b"over\0\0\0\0\0\0\0\0\0\0\0\0\0\0\0\0\0\0\0\0".as_slice()
+    );
+    let mut other = [0; 5];
+    store.read(&short, 0, &mut other);
+    assert_eq!(rt; other.as_slice(), b"short".as_slice());
+    Ok(())
+}
+
+#[test]
+fn an_empty_chain_has_no_block(rt: HostRuntime) -> Result<(), Fail> {
+    let mut store = VecBlocks::new(rt.alloc(), 2)?;
+    let mut chain = store.take_chain(0)?;
+    assert_eq!(rt; (chain.bytes(), store.free()), (0, 2));
+    store.read(&chain, 0, &mut []);
+    store.grow(&mut chain, 65)?;
+    assert_eq!(rt; (chain.bytes(), store.free()), (65, 0));
+    let mut last = [7];
+    store.read(&chain, 64, &mut last);
+    assert_eq!(rt; last, [0]);
+    store.give(chain);
+    assert_eq!(rt; store.free(), 2);
+    Ok(())
+}

@@ -11,13 +11,13 @@ loop-i-preserved c =
     let place = c.loop-i.invariant.place in
     record {
       read = λ k l. read_step _ _ _ _ _ _ _ _ (omega arith) place (omega arith) c.loop-i.invariant.block c.loop-i.invariant.read k l;
-      block = c.block_of_next-block.ensures c.args.chain.now.first c.loop-i.invariant.block;
+      block = c.block_after-block.ensures c.args.chain.now.first c.loop-i.invariant.block;
       place = omega arith;
     }
 
 pub returns : goal.returns
 returns c =
-    let content = content_of c.args.bytes.now c.args.next.now c.args.chain.now in
+    let content = content_of c.args.bytes.now c.args.index.now.next.items c.args.chain.now in
     let n = length-get_bytes content c.args.at (length c.args.into.now) in
     ext_get_or 0 c.loop-i.into (get_bytes content c.args.at (length c.args.into.now)) (omega arith) (λ k l.
     c.loop-i.invariant.read k (omega arith) ∙ sym (get-get_bytes content c.args.at (length c.args.into.now) k (omega arith)))

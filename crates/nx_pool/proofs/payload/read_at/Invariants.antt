@@ -5,7 +5,7 @@ use Rattle.nx_pool.proofs.payload.read_at.Given as goal
 
 abbrev pub invariant-loop-i : goal.invariant-loop-i
 invariant-loop-i l = record {
-  read : (k : ℕ) → k < l.i → get_or l.into k 0 ≡ slice_index (content_of l.bytes l.next l.chain) (l.at + k);
-  block : l.block ≡ block_at l.next l.chain.first (l.place / 64);
+  read : (k : ℕ) → k < l.i → get_or l.into k 0 ≡ slice_index (content_of l.bytes l.index.next.items l.chain) (l.at + k);
+  block : l.block ≡ block_at l.index.next.items l.chain.first (l.place / 64);
   place : l.place ≡ l.at + l.i;
 }

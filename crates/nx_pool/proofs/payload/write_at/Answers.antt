@@ -12,7 +12,7 @@ loop-byte-preserved c =
     record {
       becomes = λ free. write_step _ free _ _ _ _ _ _ c.loop-byte.invariant.whole c.requires.chain within block (c.loop-byte.invariant.becomes free);
       rest = write_rest _ c.args.bytes.now _ c.args.from.now c.args.chain.now c.args.at _ _ _ c.loop-byte.invariant.whole c.requires.chain within place (omega arith) block c.loop-byte.invariant.rest;
-      block = c.block_of_next-block.ensures c.args.chain.now.first block;
+      block = c.block_after-block.ensures c.args.chain.now.first block;
       place = omega arith;
       whole = search rules;
     }

@@ -4,11 +4,10 @@ use Rattle.nx_pool.proofs.StoreLemmas.{no_bytes_apart, comes, longer_at}
 use Rattle.nx_pool.proofs.vec_blocks.VecBlocksBlockStore.take_chain.Goals as goal
 
 pub lengthen-requires-clause-apart : goal.lengthen-requires-clause-apart
-lengthen-requires-clause-apart c = rw c.deref_mut.ensures.value (no_bytes_apart c.args.self.now.next.items c.args.self.now.free.items c.args.self.now.once)
+lengthen-requires-clause-apart c = let i = c.args.self.now.index in no_bytes_apart i.next.items i.free.items i.once
 
 pub returns-clause-ok : goal.returns-clause-ok
 returns-clause-ok c =
     let s = c.args.self.now in
-    comes s.next.items s.free.items s.bytes.items _ _ _ _ c.args.bytes
-    (longer_at _ _ _ _ _ _ _ _ _ _ _ _ _ (sym c.deref_mut.ensures.value) (with_items_is s.next c.lengthen.new.next (c.lengthen.auto.next ∙ c.deref_mut.ensures.len))
-    (sym c.deref_mut-2.ensures.value) (with_items_is s.bytes c.lengthen.new.bytes (c.lengthen.auto.bytes ∙ c.deref_mut-2.ensures.len)) c.lengthen.ensures.becomes)
+    comes s.index.next.items s.index.free.items s.bytes.items _ _ _ _ c.args.bytes
+    (longer_at _ _ _ _ _ _ _ _ _ _ _ (sym c.deref_mut.ensures.value) (with_items_is s.bytes c.lengthen.new.bytes (c.lengthen.auto.bytes ∙ c.deref_mut.ensures.len)) c.lengthen.ensures.becomes)

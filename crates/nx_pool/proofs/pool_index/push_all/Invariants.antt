@@ -1,7 +1,7 @@
 use Rattle.std.proofs.Common.{◌≡◌, ◌≤◌, ℕ, vec_len, vec_capacity}
 use Rattle.std.specs.Prelude.{nat_lt}
 use Rattle.nx_pool.specs.Chains.{occurs, one_if}
-use Rattle.nx_pool.proofs.links.release_all.Given as goal
+use Rattle.nx_pool.proofs.pool_index.push_all.Given as goal
 
 abbrev pub invariant-loop-block : goal.invariant-loop-block
 invariant-loop-block l = record {

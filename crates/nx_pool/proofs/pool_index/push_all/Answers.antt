@@ -1,7 +1,7 @@
 use Rattle.std.proofs.Common.{◌+◌, arith, ap, ◌∙◌, sym, rules, [], ◌∷◌}
 use Rattle.nx_pool.specs.Chains.{occurs}
 use Rattle.nx_pool.proofs.LinkLemmas.{occurs-append, occurs-one, occurs-none, one_if-none, one_if-more}
-use Rattle.nx_pool.proofs.links.release_all.Goals as goal
+use Rattle.nx_pool.proofs.pool_index.push_all.Goals as goal
 
 pub loop-block-init : goal.loop-block-init
 loop-block-init c = record { count = λ q. occurs-none q c.args.free.now.items (search rules) ∙ sym (one_if-none q); long = search rules; capacity = omega arith }

@@ -1,6 +1,6 @@
 use Rattle.std.proofs.Common.{◌≡◌, ◌≤◌, ◌+◌, ℕ, vec_len, vec_capacity}
 use Rattle.nx_pool.specs.Chains.{occurs, block_at, blocks_from}
-use Rattle.nx_pool.proofs.links.release.Given as goal
+use Rattle.nx_pool.proofs.pool_index.push_chain.Given as goal
 
 abbrev pub invariant-loop : goal.invariant-loop
 invariant-loop l = record {

@@ -1,7 +1,7 @@
 use Rattle.std.proofs.Common.{◌+◌, arith, refl, ap, ◌∙◌, add-one}
 use Rattle.nx_pool.specs.Chains.{occurs, block_at, blocks_from}
 use Rattle.nx_pool.proofs.LinkLemmas.{block_at-more, occurs-released}
-use Rattle.nx_pool.proofs.links.release.Goals as goal
+use Rattle.nx_pool.proofs.pool_index.push_chain.Goals as goal
 
 pub loop-init : goal.loop-init
 unfolding occurs block_at blocks_from
