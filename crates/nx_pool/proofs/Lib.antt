@@ -4,3 +4,4 @@ pub mod EffectLemmas
 pub mod PayloadLemmas
 pub mod StoreLemmas
 pub mod Holders
+pub mod Appends

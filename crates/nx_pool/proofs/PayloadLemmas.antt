@@ -101,7 +101,7 @@ write_rest next bytes0 bytes from c at i p block whole h l place inside is befor
     ∙ ap (λ q. put_bytes (content_of bytes next c) q (drop i from)) place
     ∙ before
 
-drop-past : (xs : List ℕ) (i : ℕ) → length xs ≤ i → drop i xs ≡ []
+pub drop-past : (xs : List ℕ) (i : ℕ) → length xs ≤ i → drop i xs ≡ []
 drop-past [] zero l = refl
 drop-past [] (suc i) l = refl
 drop-past (x ∷ xs) zero l = absurd (omega arith)

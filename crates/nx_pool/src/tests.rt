@@ -1,5 +1,23 @@
+ghost use Rattle.std.specs.Prelude.{◌≤◌, ◌<◌, ◌+◌, ◌^◌, ◌++◌, ◌↔◌, length, IfOk, IsOk};
+ghost use Rattle.nx_pool.specs.Chains.{length_of, blocks_for};
+ghost use Rattle.nx_pool.specs.Effects.{IsHeld, Becomes};
+
 use super::*;
 use std::test::Fail;
+
+// Puts bytes after those of a chain, in any store.
+fn append<B: BlockStore>(store: &mut B, chain: &mut Chain, bytes: &[u8]) -> Result<(), NoBlocks>
+    requires held { IsHeld (B.holds store.old) chain.old }
+    requires short { length_of chain.old + length bytes.now < 2 ^ 32 }
+    ensures ok { IfOk result (λ _. Becomes (B.holds store.old) (B.holds store.new) (B.content store.old) (B.content store.new) chain.old chain.new
+        (B.content store.old chain.old ++ bytes.now)) }
+    ensures fits { IsOk result ↔ (blocks_for (length_of chain.old + length bytes.now) ≤ B.free_blocks store.old + blocks_for (length_of chain.old)) }
+{
+    let at = chain.bytes();
+    store.grow(chain, at + bytes.len() as u32)?;
+    store.write(chain, at, bytes);
+    Ok(())
+}
 
 #[test]
 fn a_lack_of_blocks_has_both_numbers(rt: HostRuntime) -> Result<(), Fail> {
@@ -63,5 +81,19 @@ fn an_empty_chain_has_no_block(rt: HostRuntime) -> Result<(), Fail> {
     assert_eq!(rt; last, [0]);
     store.give(chain);
     assert_eq!(rt; store.free(), 2);
+    Ok(())
+}
+
+#[test]
+fn an_append_goes_on_in_the_next_block(rt: HostRuntime) -> Result<(), Fail> {
+    let mut store = VecBlocks::new(rt.alloc(), 2)?;
+    let mut chain = store.take_chain(61)?;
+    append(&mut store, &mut chain, b"append")?;
+    assert_eq!(rt; (chain.bytes(), store.free()), (67, 0));
+    let mut read = [7; 7];
+    store.read(&chain, 60, &mut read);
+    assert_eq!(rt; read.as_slice(), b"\0append".as_slice());
+    no_block_is_lost::<VecBlocks>();
+    a_write_changes_its_bytes_alone::<VecBlocks>();
     Ok(())
 }
