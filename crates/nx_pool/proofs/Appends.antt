@@ -1,5 +1,5 @@
 -- Bytes that are put after those of a chain, or into a new one, and all bytes of a chain.
-use Rattle.std.proofs.Common.{◌≡◌, ℕ, ◌+◌, ◌-◌, ◌≤◌, List, [], ◌∷◌, ◌++◌, length, take, drop, refl, sym, ap, ◌∙◌, arith, replicate, append-nil}
+use Rattle.std.proofs.Common.{◌≡◌, ℕ, ◌+◌, ◌≤◌, List, [], ◌++◌, length, take, drop, refl, sym, ap, ◌∙◌, arith, replicate, append-nil}
 use Rattle.std.proofs.lemmas.List.{length-append, length-replicate, take_at, length-take-le, take-append-drop}
 use Rattle.nx_base.specs.ByteLists.{put_bytes, get_bytes}
 use Rattle.nx_base.proofs.ByteLemmas.{get_bytes-between}

@@ -5,9 +5,9 @@ use Rattle.std.specs.List.{range_with_len}
 use Rattle.std.proofs.lemmas.List.{length-set, get_or-set_same, get_or-set_other, length_push}
 use Rattle.std.proofs.lemmas.List.FromFn.{map-range_with_len_more}
 use Rattle.nx_pool.specs.declared.chain.Chain.{Chain}
-use Rattle.nx_pool.specs.Chains.{blocks_for, one_if, occurs, blocks_from, block_at, blocks_of, uses, byte_at, content_of, IsApart, AreApart}
+use Rattle.nx_pool.specs.Chains.{blocks_for, one_if, occurs, blocks_from, block_at, blocks_of, byte_at, content_of, IsApart, AreApart}
 use Rattle.nx_pool.specs.Effects.{Becomes}
-use Rattle.nx_pool.proofs.LinkLemmas.{occurs-append, occurs-one, one_if-same, one_if-small, one_if-below, uses-append, uses-cons, total_blocks-append, total_blocks-cons, blocks_from-more, block_at-more, OtherLinksStay, OtherBytesStay, other_bytes_stay, block_at-stays, blocks_from-stays, uses-stays, occurs-block_at, other_block, blocks_differ, map-range, contents-stay, alone, apart_once, apart_inside}
+use Rattle.nx_pool.proofs.LinkLemmas.{occurs-append, occurs-one, one_if-same, one_if-small, one_if-below, uses-append, uses-cons, total_blocks-append, total_blocks-cons, blocks_from-more, block_at-more, OtherLinksStay, other_bytes_stay, block_at-stays, blocks_from-stays, uses-stays, occurs-block_at, other_block, blocks_differ, map-range, contents-stay, alone, apart_once, apart_inside}
 
 -- one zero more in the block x, where the link of the block b alone may have changed
 pub record Grows (next next' free free' : List ℕ) (b x : ℕ) (c c' : Chain) : Type 0 where

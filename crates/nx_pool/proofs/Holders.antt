@@ -5,7 +5,7 @@ use Rattle.std.specs.Prelude.{slice_get, slice_set, Some, flat_map, remove}
 use Rattle.std.proofs.lemmas.List.{set_split, map-append, take-map, drop-map, length-map}
 use Rattle.std.proofs.lemmas.List.Concat.{flat_map-append}
 use Rattle.nx_pool.specs.declared.chain.Chain.{Chain}
-use Rattle.nx_pool.specs.Effects.{IsHeld, Same, Becomes, Comes, Goes}
+use Rattle.nx_pool.specs.Effects.{IsHeld, Becomes, Comes, Goes}
 use Rattle.nx_pool.specs.Moves.{AreHeld, Moves}
 use Rattle.nx_pool.proofs.EffectLemmas.{Same-trans}
 

@@ -1,11 +1,11 @@
 -- The effects over the vectors of a store.
-use Rattle.std.proofs.Common.{◌≡◌, ℕ, ◌+◌, ◌-◌, ◌<◌, ◌≤◌, List, [], ◌∷◌, ◌++◌, length, refl, sym, ap, ◌∙◌, subst, arith, replicate}
+use Rattle.std.proofs.Common.{◌≡◌, ℕ, ◌+◌, ◌-◌, ◌≤◌, List, [], ◌∷◌, ◌++◌, length, refl, sym, ap, ◌∙◌, subst, arith, replicate}
 use Rattle.std.specs.Prelude.{nat_lt}
 use Rattle.nx_pool.specs.declared.chain.Chain.{Chain}
-use Rattle.nx_pool.specs.Chains.{blocks_for, one_if, occurs, blocks_from, blocks_of, uses, total_blocks, content_of, AreFree, IsApart, AreApart}
+use Rattle.nx_pool.specs.Chains.{blocks_for, one_if, occurs, blocks_of, uses, total_blocks, content_of, AreFree, IsApart, AreApart}
 use Rattle.nx_pool.specs.Apart.{held_without, occurs-no_block}
 use Rattle.nx_pool.specs.Effects.{IsHeld, Becomes, Comes, Goes}
-use Rattle.nx_pool.proofs.LinkLemmas.{uses-append, uses-cons, total_blocks-append, total_blocks-cons, held_is_apart, one_if-small}
+use Rattle.nx_pool.proofs.LinkLemmas.{uses-append, uses-cons, total_blocks-append, total_blocks-cons, held_is_apart}
 
 abbrev pub Longer : (next free bytes next' free' bytes' : List ℕ) (c c' : Chain) (zs : List ℕ) → Type 0
 Longer next free bytes next' free' bytes' c c' zs = Becomes (AreApart next free) (AreApart next' free') (content_of bytes next) (content_of bytes' next') c c' (content_of bytes next c ++ zs)

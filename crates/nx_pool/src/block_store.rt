@@ -11,7 +11,9 @@ use thiserror::Error;
 #[derive(Clone, Copy, Debug, PartialEq, Eq, Error)]
 #[error("{need} blocks are needed and {free} are free")]
 pub struct NoBlocks {
+    /// How many blocks are needed beyond those that the chain has.
     pub need: u32,
+    /// How many blocks are free: fewer.
     pub free: u32,
 }
 

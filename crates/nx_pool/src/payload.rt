@@ -14,11 +14,12 @@ pub fn read_at(index: &PoolIndex, bytes: &[u8], chain: &Chain, at: u32, into: &m
     requires inside { at + length into.old ≤ length_of chain.now }
     ensures { into.new ≡ get_bytes (content_of bytes.now index.now.next.items chain.now) at (length into.old) }
 {
-    let _end = chain.bytes;
+    // Read, so that each place in it is known to be a u32.
+    let _length = chain.bytes;
     let mut place = at;
     let mut block = index.block_of(chain, at);
-    for i in 0..into.len() {
-        into[i] = bytes[64 * block as usize + place as usize % 64];
+    for byte in into.iter_mut() {
+        *byte = bytes[BLOCK_BYTES * block as usize + place as usize % BLOCK_BYTES];
         block = index.block_after(block, place);
         place += 1;
     }
@@ -33,11 +34,12 @@ pub fn write_at(index: &PoolIndex, bytes: &mut [u8], chain: &Chain, at: u32, fro
         (content_of bytes.old index.now.next.items) (content_of bytes.new index.now.next.items)
         chain.now chain.now (put_bytes (content_of bytes.old index.now.next.items chain.now) at from.now) }
 {
-    let _end = chain.bytes;
+    // Read, so that each place in it is known to be a u32.
+    let _length = chain.bytes;
     let mut place = at;
     let mut block = index.block_of(chain, at);
     for byte in from {
-        bytes[64 * block as usize + place as usize % 64] = *byte;
+        bytes[BLOCK_BYTES * block as usize + place as usize % BLOCK_BYTES] = *byte;
         block = index.block_after(block, place);
         place += 1;
     }
@@ -60,8 +62,8 @@ pub fn lengthen(index: &mut PoolIndex, bytes: &mut [u8], chain: &mut Chain, size
         last = index.block_of(chain, chain.bytes - 1);
     }
     while chain.bytes < size {
-        let at = chain.bytes % BLOCK_BYTES;
+        let at = chain.bytes as usize % BLOCK_BYTES;
         last = index.extend(chain, last);
-        bytes[64 * last as usize + at as usize] = 0;
+        bytes[BLOCK_BYTES * last as usize + at] = 0;
     }
 }

@@ -9,13 +9,13 @@ use nx_base::OutOfMemory;
 use std::alloc::Global;
 
 /// How many bytes a block has.
-pub const BLOCK_BYTES: u32 = 64;
+pub const BLOCK_BYTES: usize = 64;
 
 /// How many blocks so many bytes fill.
 pub fn block_count(bytes: u32) -> u32
     ensures { result ≡ blocks_for bytes }
 {
-    ((bytes as u64 + 63) / 64) as u32
+    ((bytes as usize + BLOCK_BYTES - 1) / BLOCK_BYTES) as u32
 }
 
 /// Which blocks of a store are free, and for each block the next one of its chain. It has no bytes.
@@ -68,7 +68,7 @@ impl PoolIndex {
         ensures { result ≡ block_at self.now.next.items chain.now.first (at / 64) }
     {
         let mut block = chain.first;
-        for _ in 0..at / BLOCK_BYTES {
+        for _ in 0..at as usize / BLOCK_BYTES {
             block = self.next[block as usize];
         }
         block
@@ -79,7 +79,7 @@ impl PoolIndex {
         requires { block < length self.now.next.items }
         ensures { (first : ℕ) → block ≡ block_at self.now.next.items first (at / 64) → result ≡ block_at self.now.next.items first ((at + 1) / 64) }
     {
-        if at % 64 == 63 {
+        if at as usize % BLOCK_BYTES == BLOCK_BYTES - 1 {
             self.next[block as usize]
         } else {
             block
@@ -106,7 +106,7 @@ impl PoolIndex {
         ensures free { vec_len self.new.free + blocks_for (length_of chain.new) ≡ vec_len self.old.free + blocks_for (length_of chain.old) }
         ensures blocks { length self.new.next.items ≡ length self.old.next.items }
     {
-        if chain.bytes % BLOCK_BYTES != 0 {
+        if chain.bytes as usize % BLOCK_BYTES != 0 {
             chain.bytes += 1;
             return last;
         }

@@ -1,4 +1,4 @@
-use Rattle.std.proofs.Common.{◌≡◌, ◌<◌, length, arith, refl, ap, ◌∙◌, sym, add-one, subst}
+use Rattle.std.proofs.Common.{◌<◌, length, arith, refl, ap, ◌∙◌, sym, add-one, subst}
 use Rattle.std.specs.Prelude.{slice_index}
 use Rattle.std.proofs.lemmas.List.{get_or_read}
 use Rattle.nx_pool.specs.Chains.{block_at}

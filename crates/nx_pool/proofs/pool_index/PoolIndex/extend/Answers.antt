@@ -1,4 +1,4 @@
-use Rattle.std.proofs.Common.{◌≡◌, ◌<◌, ◌%◌, arith, rules}
+use Rattle.std.proofs.Common.{◌<◌, arith, rules}
 use Rattle.std.proofs.lemmas.List.{length-set}
 use Rattle.nx_pool.proofs.GrowthLemmas.{inside_becomes, first_becomes, first_apart, first_last, after_becomes, after_apart, after_last, popped, popped_inside, last_inside}
 use Rattle.nx_pool.proofs.StoreLemmas.{free_of_apart}
