@@ -1,5 +1,5 @@
 // Bytes of a chain, along its blocks.
-ghost use Rattle.std.specs.Prelude.{◌≡◌, ◌≤◌, ◌<◌, ◌+◌, ◌-◌, ◌*◌, List, ℕ, ◌++◌, length, replicate, vec_len};
+ghost use Rattle.std.specs.Prelude.{◌≡◌, ◌≤◌, ◌+◌, ◌-◌, ◌*◌, List, ℕ, ◌++◌, length, replicate, vec_len};
 ghost use Rattle.nx_base.specs.ByteLists.{get_bytes, put_bytes};
 ghost use Rattle.nx_pool.specs.Chains.{length_of, blocks_for, content_of, IsChain, IsApart, AreApart};
 ghost use Rattle.nx_pool.specs.Effects.{Becomes};
