@@ -1,6 +1,6 @@
 ghost use Rattle.std.specs.Prelude.{◌≡◌, [], IfOk, None, replicate};
 
-use crate::payload::Payload;
+use crate::moved_bytes::MovedBytes;
 use nx_base::{KCall, OutOfMemory};
 use std::alloc::Global;
 
@@ -12,9 +12,9 @@ pub struct Cooked {
     /// The words of its parameters, in their order; 0 past them.
     pub words: [u32; 6],
     /// The bytes of its first input.
-    pub first: Payload,
+    pub first: MovedBytes,
     /// The bytes of its second input.
-    pub second: Payload,
+    pub second: MovedBytes,
 }
 
 impl Cooked {
@@ -27,8 +27,8 @@ impl Cooked {
         Ok(Cooked {
             call: None,
             words: [0; 6],
-            first: Payload::new(alloc)?,
-            second: Payload::new(alloc)?,
+            first: MovedBytes::new(alloc)?,
+            second: MovedBytes::new(alloc)?,
         })
     }
 }

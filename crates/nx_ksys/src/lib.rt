@@ -4,8 +4,8 @@
 
 mod cooked;
 mod laws;
+mod moved_bytes;
 mod node;
-mod payload;
 mod pick;
 mod replies;
 mod thread;
@@ -15,8 +15,8 @@ pub use laws::{
     a_call_counts_one, a_console_only_grows, choosing_changes_nothing_that_is_reported,
     pointers_mean_nothing_to_the_kernel,
 };
+pub use moved_bytes::{MOST_MOVED, MovedBytes};
 pub use node::{Node, NodeKind, Open, Target};
-pub use payload::{MOST_MOVED, Payload};
 pub use pick::Pick;
 pub use replies::{Replies, Reply};
 pub use thread::{Asked, Doing, Search, Thread, Wait};

@@ -1,7 +1,7 @@
 ghost use Rattle.std.specs.Prelude.{◌≡◌, ◌<◌, ◌≤◌, ◌++◌, [], ◌∷◌, length, IfOk};
 ghost use Rattle.nx_ksys.specs.Gathered.{Gathered};
 
-use crate::payload::Payload;
+use crate::moved_bytes::MovedBytes;
 use nx_base::OutOfMemory;
 use std::alloc::Global;
 use std::marker::Model;
@@ -16,9 +16,9 @@ pub struct Reply {
     /// The number of the error, 0 where the call succeeded.
     pub errno: i32,
     /// The bytes of its first output.
-    pub first: Payload,
+    pub first: MovedBytes,
     /// The bytes of its second output.
-    pub second: Payload,
+    pub second: MovedBytes,
 }
 
 /// The replies of one call, in their order. The room for one reply to each thread is taken when
@@ -51,8 +51,8 @@ impl Replies {
                 tid: 0,
                 value: 0,
                 errno: 0,
-                first: Payload::new(alloc)?,
-                second: Payload::new(alloc)?,
+                first: MovedBytes::new(alloc)?,
+                second: MovedBytes::new(alloc)?,
             })?;
         }
         Ok(Replies { items, used: 0 })

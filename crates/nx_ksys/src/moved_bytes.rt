@@ -10,11 +10,11 @@ pub const MOST_MOVED: usize = 4096;
 /// The bytes that one parameter of a call moves, at most 4,096. Their room is taken when it is
 /// made, so no other call takes memory. Contracts see the bytes.
 #[derive(Debug, Drop)]
-pub struct Payload {
+pub struct MovedBytes {
     items: Vec<u8>,
 }
 
-impl Model for Payload {
+impl Model for MovedBytes {
     ghost use Rattle.std.specs.Prelude.{List, ℕ, ◌≤◌, vec_capacity};
 
     ghost Value = { List ℕ };
@@ -24,13 +24,13 @@ impl Model for Payload {
     ghost invariant = { λ p. 4096 ≤ vec_capacity p.items };
 }
 
-impl Payload {
+impl MovedBytes {
     /// No bytes, and room for 4,096.
-    pub fn new(alloc: Global) -> Result<Payload, OutOfMemory>
+    pub fn new(alloc: Global) -> Result<MovedBytes, OutOfMemory>
         ensures { IfOk result (λ p. p ≡ []) }
     {
         let items = Vec::with_capacity(alloc, MOST_MOVED)?;
-        Ok(Payload { items })
+        Ok(MovedBytes { items })
     }
 
     /// The bytes.
