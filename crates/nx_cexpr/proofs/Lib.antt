@@ -1,0 +1,4 @@
+pub mod SignLaws
+pub mod Laws
+pub mod Sound
+pub mod Spared

@@ -1,0 +1,5 @@
+pub mod Signs
+pub mod Operands
+pub mod Types
+pub mod Reading
+pub mod Answers

@@ -1,0 +1,14 @@
+//! Expressions of C programs, read one token ahead.
+//! Which tokens are an expression stands in `nx_ctree`'s definitions, how they are read in `specs/Reading.antt`.
+#![tactic(auto)]
+
+mod operand;
+mod signs;
+mod stop;
+mod tokens;
+mod types;
+
+pub use operand::Tall;
+pub use stop::ParseStop;
+pub use tokens::{Rest, expect};
+pub use types::{base, star};
