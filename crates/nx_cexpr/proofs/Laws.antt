@@ -240,6 +240,10 @@ module _ (low : Below) (fits : Bool) (lows : Lows low fits) where
     pub elements_law : (x : Element) → Law (elements low fits d x) (Stops 1) (Stops 1)
     elements_law x = law_loop (element_pick low fits d) (Stops 1) Any element_rounds x
 
+    -- One index and those after it.
+    pub law_first : fits ≡ true → (a : Operand) → Law (seq (element_rest low a) (elements low fits d)) (Stops 1) Num
+    law_first f a = law_seq (element_rest low a) (elements low fits d) Any Num (Stops 1) (Stops 1) (element_law f a) elements_law (λ u i. tt)
+
     pub indexed_law : fits ≡ true → (a : Operand) → Law (indexed low fits d a) (Stops 1) (Is sign.OpenBracket)
     unfolding indexed
     indexed_law f a =
@@ -448,7 +452,7 @@ module _ (low : Below) (fits : Bool) (lows : Lows low fits) where
     size_of_passes true t u a e = cc
     size_of_passes false t u a e = then_passes (base_pick u) (size_of_type_rest t) a e
 
-    size_of_part_law : (t : Signed) → Law (dispatch (size_of_pick t)) Any (Is sign.Name)
+    pub size_of_part_law : (t : Signed) → Law (dispatch (size_of_pick t)) Any (Is sign.Name)
     size_of_part_law t =
         let o = (size_of_name_law t (tok sign.Name)).opens in
         law_dispatch (size_of_pick t) Any (Is sign.Name)

@@ -2,3 +2,4 @@ pub mod SignLaws
 pub mod Laws
 pub mod Sound
 pub mod Spared
+pub mod Growth
