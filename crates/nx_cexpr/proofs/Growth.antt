@@ -1,13 +1,12 @@
 -- Expressions within a limit against expressions within a wider one.
-use Rattle.std.proofs.Common.{◌≡◌, ℕ, zero, suc, ◌+◌, ◌<◌, ◌≤◌, Bool, true, false, List, [], ◌∷◌, refl, sym, ap, ◌∙◌, arith, subst, lit<}
-use Rattle.std.specs.Prelude.{Ok, Err, Option, None, Some, max, if◌then◌else◌, ◌==◌, ◌&&◌, nat_lt}
+use Rattle.std.proofs.Common.{◌≡◌, ℕ, zero, suc, ◌+◌, ◌<◌, ◌≤◌, Bool, true, false, List, ◌∷◌, refl, sym, ap, ◌∙◌, arith, subst}
+use Rattle.std.specs.Prelude.{Ok, Option, None, Some, max, if◌then◌else◌, ◌==◌, ◌&&◌, nat_lt}
 use Rattle.std.proofs.lemmas.Bool.{lt-ltb, ltb-true}
 use Rattle.nx_ctree.specs.declared.sign.Sign.{Sign}
 use Rattle.nx_ctree.specs.declared.sign.Sign.TheVariants as sign
 use Rattle.nx_ctree.specs.declared.sign.Signed.{Signed}
 use Rattle.nx_ctree.specs.declared.program.Base.{Base}
 use Rattle.nx_ctree.specs.declared.program.Base.TheVariants as base
-use Rattle.nx_ctree.specs.declared.expression.PlaceKind.TheVariants as place
 use Rattle.nx_ctree.specs.declared.expression.UnaryOperator.{UnaryOperator}
 use Rattle.nx_ctree.specs.declared.expression.UnaryOperator.TheVariants as unary
 use Rattle.nx_ctree.specs.declared.expression.StepOperator.{StepOperator}
@@ -18,7 +17,7 @@ use Rattle.nx_ctree.specs.declared.expression.AssignOperator.TheVariants as assi
 use Rattle.nx_ctree.specs.Expressions.{step_of, binary_of, assign_of, written, whole}
 use Rattle.nx_grammar.specs.declared.kind.Kind.{Kind}
 use Rattle.nx_grammar.specs.declared.kind.Kind.TheVariants.{Syntax, Limit}
-use Rattle.nx_grammar.specs.Reading.{Reading, Pick, Refuse, Pass, Take, picked, dispatch, bind, seq, done, expect, then_pick, loop}
+use Rattle.nx_grammar.specs.Reading.{Reading, Pick, Refuse, Pass, Take, picked, dispatch, seq, done, expect, then_pick, loop}
 use Rattle.nx_grammar.specs.Lawful.{Any, Law}
 use Rattle.nx_grammar.specs.Growing.{Grows, Shortens, Wider, RefusalGrown, PickGrown}
 use Rattle.nx_grammar.proofs.LoopLaws.{law_loop}
@@ -28,7 +27,6 @@ use Rattle.nx_grammar.proofs.Growth.{shortens, shortens_seq, grows_seq, grows_se
 use Rattle.nx_grammar.proofs.Loops.{shorter, loop_keeps}
 use Rattle.nx_grammar.proofs.LoopGrowth.{grows_loop, grows_loop_by}
 use Rattle.nx_grammar.proofs.Thens.{then_grown}
-use Rattle.nx_cexpr.specs.declared.operand.Tall.{Tall}
 use Rattle.nx_cexpr.specs.declared.operand.Form.{Form}
 use Rattle.nx_cexpr.specs.declared.operand.Form.TheVariants as form
 use Rattle.nx_cexpr.specs.declared.operand.Target.{Target}
@@ -38,9 +36,9 @@ use Rattle.nx_cexpr.specs.declared.operand.Lvalue.{Lvalue}
 use Rattle.nx_cexpr.specs.declared.operand.Element.{Element}
 use Rattle.nx_cexpr.specs.declared.operand.Arguments.{Arguments}
 use Rattle.nx_cexpr.specs.Signs.{is_sign, is_prefix, operator_at, begins, begins_primary, full_fault, Stops}
-use Rattle.nx_cexpr.specs.Types.{begins_base, const_rest, base_by, base_pick, base_at, star_pick, star_at}
+use Rattle.nx_cexpr.specs.Types.{begins_base, const_rest, base_by, base_pick, star_pick, star_at}
 use Rattle.nx_cexpr.specs.Operands
-use Rattle.nx_cexpr.specs.Reading.{Below, next_rest, comma_pick, arguments_rest, call_pick, call_rest, name_pick, name_rest, paren_rest, primary_pick, element_rest, element_pick, elements, indexed, step_by, step_pick, post_element, post_pick, post, place_rest, place_element, place_call, place_name_pick, place_name, deref_rest, place_pick, unary_rest, address_rest, before_rest, cast_rest, group_rest, group_pick, group, size_of_name_rest, size_of_type_rest, size_of_pick, size_of_rest, prefix_pick, unary_pick, right_rest, operator_by, operator_pick, conditional_rest, conditional_pick, assign_rest, assign_by, assign_pick, level_rest, level_pick, has_node, within, level_at, expr_pick, expr_at}
+use Rattle.nx_cexpr.specs.Reading.{Below, next_rest, comma_pick, arguments_rest, call_pick, call_rest, name_pick, name_rest, paren_rest, primary_pick, element_rest, element_pick, elements, indexed, step_by, step_pick, post_element, post_pick, post, place_rest, place_element, place_call, place_name_pick, place_name, deref_rest, place_pick, unary_rest, address_rest, before_rest, cast_rest, group_rest, group_pick, group, size_of_name_rest, size_of_type_rest, size_of_pick, size_of_rest, prefix_pick, right_rest, operator_by, operator_pick, conditional_rest, conditional_pick, assign_rest, assign_by, assign_pick, level_rest, level_pick, has_node, within, expr_pick, expr_at}
 use Rattle.nx_cexpr.proofs.SignLaws.{Is, tok, is_true, true_is}
 use Rattle.nx_cexpr.proofs.Laws
 use Rattle.nx_cexpr.proofs.Laws.{Lows, lows, both}

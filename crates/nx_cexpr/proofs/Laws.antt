@@ -1,6 +1,6 @@
 -- The laws of reading expressions.
-use Rattle.std.proofs.Common.{◌≡◌, ℕ, zero, suc, ◌+◌, ◌<◌, ◌≤◌, Bool, true, false, List, [], ◌∷◌, refl, sym, ap, ◌∙◌, arith, subst, lit<}
-use Rattle.std.specs.Prelude.{Ok, Err, Option, None, Some, if◌then◌else◌, ◌==◌, ◌&&◌, nat_lt}
+use Rattle.std.proofs.Common.{◌≡◌, ℕ, zero, suc, ◌<◌, Bool, true, false, List, [], ◌∷◌, refl, sym, ap, ◌∙◌, arith, subst, lit<}
+use Rattle.std.specs.Prelude.{Ok, Option, None, Some, if◌then◌else◌, ◌==◌, ◌&&◌, nat_lt}
 use Rattle.std.proofs.lemmas.Bool.{eqb-true}
 use Rattle.nx_ctree.specs.declared.sign.Sign.{Sign}
 use Rattle.nx_ctree.specs.declared.sign.Sign.TheVariants as sign
@@ -15,11 +15,11 @@ use Rattle.nx_ctree.specs.declared.expression.BinaryOperator.{BinaryOperator}
 use Rattle.nx_ctree.specs.declared.expression.AssignOperator.{AssignOperator}
 use Rattle.nx_ctree.specs.Expressions.{step_of, binary_of, assign_of, written, whole}
 use Rattle.nx_grammar.specs.declared.kind.Kind.{Kind}
-use Rattle.nx_grammar.specs.declared.kind.Kind.TheVariants.{Syntax, Limit}
+use Rattle.nx_grammar.specs.declared.kind.Kind.TheVariants.{Limit}
 use Rattle.nx_grammar.specs.Reading.{Reading, Pick, Refuse, Pass, Take, picked, dispatch, bind, seq, done, expect, then_pick, loop}
-use Rattle.nx_grammar.specs.Lawful.{Heads, Any, Lives, Opens, Law, Picks, Rounds}
+use Rattle.nx_grammar.specs.Lawful.{Heads, Any, Lives, Opens, Law, Rounds}
 use Rattle.nx_grammar.proofs.Sequences.{law_seq, law_done, opens_seq}
-use Rattle.nx_grammar.proofs.Choices.{law_dispatch, law_fit, lives_any, taken_by}
+use Rattle.nx_grammar.proofs.Choices.{law_dispatch, taken_by}
 use Rattle.nx_grammar.proofs.LoopLaws.{law_loop}
 use Rattle.nx_grammar.proofs.Thens.{Takes, picked_then, then_takes, then_passes}
 use Rattle.nx_cexpr.specs.declared.operand.Tall.{Tall}
@@ -27,11 +27,11 @@ use Rattle.nx_cexpr.specs.declared.operand.Operand.{Operand}
 use Rattle.nx_cexpr.specs.declared.operand.Lvalue.{Lvalue}
 use Rattle.nx_cexpr.specs.declared.operand.Element.{Element}
 use Rattle.nx_cexpr.specs.declared.operand.Arguments.{Arguments}
-use Rattle.nx_cexpr.specs.Signs.{is_sign, is_prefix, rank, Stops, operator_at, begins, begins_primary, full_fault}
+use Rattle.nx_cexpr.specs.Signs.{is_sign, is_prefix, Stops, operator_at, begins, begins_primary, full_fault}
 use Rattle.nx_cexpr.specs.Types.{begins_base, const_rest, base_by, base_pick, base_at, star_pick, star_at}
 use Rattle.nx_cexpr.specs.Operands
 use Rattle.nx_cexpr.specs.Reading.{Below, next_rest, comma_pick, arguments_rest, call_pick, call_rest, name_pick, name_rest, paren_rest, primary_pick, element_rest, element_pick, elements, indexed, step_by, step_pick, post_element, post_pick, post, place_rest, place_element, place_call, place_name_pick, place_name, deref_rest, place_pick, unary_rest, address_rest, before_rest, cast_rest, group_rest, group_pick, group, size_of_name_rest, size_of_type_rest, size_of_pick, size_of_rest, prefix_pick, unary_pick, right_rest, operator_by, operator_pick, conditional_rest, conditional_pick, assign_rest, assign_by, assign_pick, level_rest, level_pick, has_node, within, level_at, expr_pick, expr_at}
-use Rattle.nx_cexpr.proofs.SignLaws.{Is, tok, is_true, true_is, differs, other_rank, stops_at, sign_law, no_step, no_operator, no_assign}
+use Rattle.nx_cexpr.proofs.SignLaws.{Is, tok, differs, other_rank, stops_at, sign_law, no_step, no_operator, no_assign}
 
 abbrev Num : Signed → Type 0
 Num = Is sign.Number
@@ -548,7 +548,7 @@ module _ (low : Below) (fits : Bool) (lows : Lows low fits) where
     pub conditional_stops : (a : Operand) (t : Signed) → Stops 12 t → conditional_pick low fits d a t ≡ Pass a
     conditional_stops a t h = rw (other_rank sign.Question 12 t refl h) refl
 
-    conditional_ends : (a : Operand) (r : List Signed) → Heads (Stops 12) r → dispatch (conditional_pick low fits d a) r ≡ Ok (a, r)
+    pub conditional_ends : (a : Operand) (r : List Signed) → Heads (Stops 12) r → dispatch (conditional_pick low fits d a) r ≡ Ok (a, r)
     conditional_ends a [] h = absurd h
     conditional_ends a (t ∷ ts) h = ap (λ x. picked x t ts) (conditional_stops a t h)
 
@@ -579,7 +579,7 @@ module _ (low : Below) (fits : Bool) (lows : Lows low fits) where
     pub assign_stops : (a : Operand) (t : Signed) → Stops 13 t → assign_pick low fits d a t ≡ Pass a
     assign_stops a t h = ap (λ o. assign_by low fits d a o (Operands.lvalue_of a)) (no_assign t h)
 
-    assign_ends : (a : Operand) (r : List Signed) → Heads (Stops 13) r → dispatch (assign_pick low fits d a) r ≡ Ok (a, r)
+    pub assign_ends : (a : Operand) (r : List Signed) → Heads (Stops 13) r → dispatch (assign_pick low fits d a) r ≡ Ok (a, r)
     assign_ends a [] h = absurd h
     assign_ends a (t ∷ ts) h = ap (λ x. picked x t ts) (assign_stops a t h)
 

@@ -1,6 +1,6 @@
 -- What is read has its tree by the grammar.
-use Rattle.std.proofs.Common.{◌≡◌, ℕ, zero, suc, ◌+◌, ◌<◌, ◌≤◌, Bool, true, false, List, [], ◌∷◌, ◌++◌, refl, sym, ap, ◌∙◌, arith, subst, lit<}
-use Rattle.std.specs.Prelude.{Ok, Err, Option, None, Some, max, if◌then◌else◌, ◌==◌, ◌&&◌, nat_lt}
+use Rattle.std.proofs.Common.{◌≡◌, ℕ, zero, suc, ◌<◌, ◌≤◌, Bool, true, false, List, [], ◌∷◌, ◌++◌, refl, sym, ap, ◌∙◌, arith, subst}
+use Rattle.std.specs.Prelude.{Ok, Option, None, Some, if◌then◌else◌, ◌==◌, ◌&&◌, nat_lt}
 use Rattle.std.proofs.lemmas.Bool.{eqb-true, ltb-true}
 use Rattle.nx_ctree.specs.declared.sign.Sign.{Sign}
 use Rattle.nx_ctree.specs.declared.sign.Sign.TheVariants as sign
@@ -19,8 +19,8 @@ use Rattle.nx_ctree.specs.declared.expression.AssignOperator.{AssignOperator}
 use Rattle.nx_ctree.specs.Expressions.{expr, at, unary_of, step_of, binary_of, assign_of, written, whole, IsBase, IntBase, CharBase, ConstCharBase, IsStar, Plain, Pointer, IsExpr, IsArgs, IsPostPlace, IsPlace}
 use Rattle.nx_ctree.specs.Expressions as grammar
 use Rattle.nx_grammar.specs.declared.kind.Kind.{Kind}
-use Rattle.nx_grammar.specs.declared.kind.Kind.TheVariants.{Syntax, Limit}
-use Rattle.nx_grammar.specs.Reading.{Out, Reading, Pick, Refuse, Pass, Take, picked, dispatch, bind, seq, done, expect, then_pick, loop}
+use Rattle.nx_grammar.specs.declared.kind.Kind.TheVariants.{Limit}
+use Rattle.nx_grammar.specs.Reading.{Out, Reading, Pick, Refuse, Pass, Take, picked, dispatch, done, expect, then_pick, loop}
 use Rattle.nx_grammar.proofs.Results.{bound, ok_same, found}
 use Rattle.nx_grammar.proofs.Loops.{shorter, loop_keeps}
 use Rattle.nx_grammar.proofs.Thens.{Takes, picked_then}
@@ -32,11 +32,11 @@ use Rattle.nx_cexpr.specs.declared.operand.Operand.{Operand}
 use Rattle.nx_cexpr.specs.declared.operand.Lvalue.{Lvalue}
 use Rattle.nx_cexpr.specs.declared.operand.Element.{Element}
 use Rattle.nx_cexpr.specs.declared.operand.Arguments.{Arguments}
-use Rattle.nx_cexpr.specs.Signs.{is_sign, is_prefix, rank, Stops, operator_at, begins, begins_primary, full_fault}
-use Rattle.nx_cexpr.specs.Types.{begins_base, const_rest, base_by, base_pick, base_at, star_pick, star_at}
+use Rattle.nx_cexpr.specs.Signs.{is_sign, is_prefix, Stops, operator_at, begins, begins_primary, full_fault}
+use Rattle.nx_cexpr.specs.Types.{begins_base, const_rest, base_by, base_pick, base_at, star_at}
 use Rattle.nx_cexpr.specs.Operands
 use Rattle.nx_cexpr.specs.Operands.{expr_of, place_of}
-use Rattle.nx_cexpr.specs.Reading.{Below, next_rest, comma_pick, arguments_rest, call_pick, call_rest, name_pick, name_rest, paren_rest, primary_pick, element_rest, element_pick, elements, indexed, step_by, step_pick, post_element, post_pick, post, place_rest, place_element, place_call, place_name_pick, place_name, deref_rest, place_pick, unary_rest, address_rest, before_rest, cast_rest, group_rest, group_pick, group, size_of_name_rest, size_of_type_rest, size_of_pick, size_of_rest, prefix_pick, unary_pick, right_rest, operator_by, operator_pick, conditional_rest, conditional_pick, assign_rest, assign_by, assign_pick, level_rest, level_pick, has_node, within, level_at, expr_pick, expr_at}
+use Rattle.nx_cexpr.specs.Reading.{Below, next_rest, comma_pick, arguments_rest, call_rest, name_rest, paren_rest, primary_pick, element_rest, element_pick, elements, indexed, step_by, step_pick, post_element, post, place_rest, place_element, place_call, place_name, deref_rest, place_pick, unary_rest, address_rest, before_rest, cast_rest, group_rest, group, size_of_name_rest, size_of_type_rest, size_of_pick, size_of_rest, prefix_pick, unary_pick, right_rest, operator_by, operator_pick, conditional_rest, conditional_pick, assign_rest, assign_by, assign_pick, level_rest, level_pick, has_node, within, level_at, expr_at}
 use Rattle.nx_cexpr.proofs.SignLaws.{Is, true_is, operator_found}
 use Rattle.nx_cexpr.proofs.Laws.{Lows, lows, both, comma_rounds, element_rounds, operator_rounds, level_then, primary_passes, base_passes, level_at_passes, expr_then}
 
@@ -154,9 +154,9 @@ module _ (low : Below) (fits : Bool) (law : Lows low fits) (d : ℕ) (sounds : S
       let c = bound (expect (is_sign sign.CloseParen) xs.1) _ (x, rest) xs.3 in
       let k = found_sign sign.CloseParen xs.1 c.0 c.1 c.2 in
       let w = loop_keeps (comma_pick low) (shorter (comma_pick low) (Is sign.CloseParen) (Stops 13) (comma_rounds low fits law fit)) (λ y r. FoundArguments d start y r) (λ y r. FoundArguments d start y r)
-          (λ y u vs q z mid p r v. let j = comma_taken (is_sign sign.Comma u) y q p in next_found start u (true_is sign.Comma u j.0) vs y z mid v (ap (λ (s : Reading Signed Arguments). s vs) j.1 ∙ r))
-          (λ y z u vs p v. subst (λ s. FoundArguments d start s (u ∷ vs)) (comma_passed (is_sign sign.Comma u) (next_rest low y) y z p) v)
-          (Operands.first_argument a) us xs.0 xs.1 xs.2 (first_found start a us f) in
+      (λ y u vs q z mid p r v. let j = comma_taken (is_sign sign.Comma u) y q p in next_found start u (true_is sign.Comma u j.0) vs y z mid v (ap (λ (s : Reading Signed Arguments). s vs) j.1 ∙ r))
+      (λ y z u vs p v. subst (λ s. FoundArguments d start s (u ∷ vs)) (comma_passed (is_sign sign.Comma u) (next_rest low y) y z p) v)
+      (Operands.first_argument a) us xs.0 xs.1 xs.2 (first_found start a us f) in
       found_value 0 (suc d) (t ∷ o ∷ start) (Operands.call t xs.0) x c.1 rest c.3
       (record {
         has = subst (λ l. IsExpr 0 (t ∷ o ∷ start) (expr t.line (kind.Call t.text l)) (suc xs.0.height) c.1) (sym w.is)

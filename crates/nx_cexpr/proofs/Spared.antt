@@ -1,5 +1,5 @@
 -- No expression takes the end of a list, so each fault has a token.
-use Rattle.std.proofs.Common.{◌≡◌, ℕ, zero, suc, Bool, true, false, List, [], ◌∷◌, refl, sym, ap, ◌∙◌, subst}
+use Rattle.std.proofs.Common.{◌≡◌, ℕ, zero, suc, Bool, true, false, refl, sym, ap, ◌∙◌, subst}
 use Rattle.std.specs.Prelude.{Option, None, Some, if◌then◌else◌, ◌==◌, ◌&&◌, nat_lt}
 use Rattle.nx_ctree.specs.declared.sign.Sign.{Sign}
 use Rattle.nx_ctree.specs.declared.sign.Sign.TheVariants as sign
@@ -14,19 +14,18 @@ use Rattle.nx_ctree.specs.declared.expression.BinaryOperator.{BinaryOperator}
 use Rattle.nx_ctree.specs.declared.expression.AssignOperator.{AssignOperator}
 use Rattle.nx_ctree.specs.Expressions.{step_of, binary_of, assign_of, written, whole}
 use Rattle.nx_grammar.specs.declared.kind.Kind.{Kind}
-use Rattle.nx_grammar.specs.declared.kind.Kind.TheVariants.{Syntax, Limit}
+use Rattle.nx_grammar.specs.declared.kind.Kind.TheVariants.{Limit}
 use Rattle.nx_grammar.specs.Reading.{Reading, Pick, Refuse, Pass, Take, dispatch, seq, done, expect, then_pick, loop}
 use Rattle.nx_grammar.specs.Sparing.{Spares, SparesPick}
 use Rattle.nx_grammar.proofs.Spares.{spares_seq, spares_done, spares_dispatch, spares_loop}
-use Rattle.nx_cexpr.specs.declared.operand.Tall.{Tall}
 use Rattle.nx_cexpr.specs.declared.operand.Operand.{Operand}
 use Rattle.nx_cexpr.specs.declared.operand.Lvalue.{Lvalue}
 use Rattle.nx_cexpr.specs.declared.operand.Element.{Element}
 use Rattle.nx_cexpr.specs.declared.operand.Arguments.{Arguments}
 use Rattle.nx_cexpr.specs.Signs.{is_sign, is_prefix, operator_at, begins, begins_primary, full_fault, Stops}
-use Rattle.nx_cexpr.specs.Types.{begins_base, const_rest, base_by, base_pick, base_at, star_pick, star_at}
+use Rattle.nx_cexpr.specs.Types.{begins_base, const_rest, base_by, base_pick, star_pick, star_at}
 use Rattle.nx_cexpr.specs.Operands
-use Rattle.nx_cexpr.specs.Reading.{Below, next_rest, comma_pick, arguments_rest, call_pick, call_rest, name_pick, name_rest, paren_rest, primary_pick, element_rest, element_pick, elements, indexed, step_by, step_pick, post_element, post_pick, post, place_rest, place_element, place_call, place_name_pick, place_name, deref_rest, place_pick, unary_rest, address_rest, before_rest, cast_rest, group_rest, group_pick, group, size_of_name_rest, size_of_type_rest, size_of_pick, size_of_rest, prefix_pick, unary_pick, right_rest, operator_by, operator_pick, conditional_rest, conditional_pick, assign_rest, assign_by, assign_pick, level_rest, level_pick, has_node, within, level_at, expr_pick, expr_at}
+use Rattle.nx_cexpr.specs.Reading.{Below, next_rest, comma_pick, arguments_rest, call_pick, call_rest, name_pick, name_rest, paren_rest, primary_pick, element_rest, element_pick, elements, indexed, step_by, step_pick, post_element, post_pick, post, place_rest, place_element, place_call, place_name_pick, place_name, deref_rest, place_pick, unary_rest, address_rest, before_rest, cast_rest, group_rest, group_pick, group, size_of_name_rest, size_of_type_rest, size_of_pick, size_of_rest, prefix_pick, right_rest, operator_by, operator_pick, conditional_rest, conditional_pick, assign_rest, assign_by, assign_pick, level_rest, level_pick, has_node, within, expr_pick}
 use Rattle.nx_cexpr.proofs.SignLaws.{Is, true_is, sign_spares}
 use Rattle.nx_cexpr.proofs.Laws.{Lows, lows, comma_rounds, element_rounds, operator_rounds}
 

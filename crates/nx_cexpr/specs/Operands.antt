@@ -1,5 +1,5 @@
 -- The trees of operands.
-use Rattle.std.specs.Prelude.{◌≡◌, ℕ, suc, max, ◌%◌, ◌^◌, Bool, List, [], ◌∷◌, ◌++◌, Option, None, Some}
+use Rattle.std.specs.Prelude.{ℕ, suc, max, ◌%◌, ◌^◌, Bool, [], ◌∷◌, ◌++◌, Option, None, Some}
 use Rattle.nx_ctok.specs.Values.{number_of, character_of, text_of}
 use Rattle.nx_ctree.specs.declared.sign.Signed.{Signed}
 use Rattle.nx_ctree.specs.declared.program.Base.{Base}

@@ -1,5 +1,5 @@
 -- Which tokens begin an expression, and which go on with one.
-use Rattle.std.specs.Prelude.{◌≡◌, ℕ, ◌<◌, ◌==◌, Bool, true, false, Option, None, Some, if◌then◌else◌}
+use Rattle.std.specs.Prelude.{ℕ, ◌<◌, ◌==◌, Bool, true, false, Option, None, Some, if◌then◌else◌}
 use denote.Enum.Bare.{sameb}
 use Rattle.nx_ctree.specs.contracts.sign.Sign.{the_type}
 use Rattle.nx_ctree.specs.declared.sign.Sign.{Sign}

@@ -15,9 +15,7 @@ pub(crate) fn begins_base(sign: Sign) -> bool
 }
 
 #[tactic(auto, unfolding(crate::specs::Types::const_rest))]
-fn const_rest<'a>(
-    tokens: &'a [Signed<'a>],
-) -> Result<(Base, &'a [Signed<'a>]), ParseStop<'a>>
+fn const_rest<'a>(tokens: &'a [Signed<'a>]) -> Result<(Base, &'a [Signed<'a>]), ParseStop<'a>>
     ensures gives { Gives (λ x. (x.0, x.1.now)) result (const_then tokens.now) }
     ensures shorter { IfOk result (λ x. length x.1.now < length tokens.now) }
 {
