@@ -1,0 +1,4 @@
+pub mod Maps
+pub mod Roles
+pub mod Seen
+pub mod Laws
