@@ -1,0 +1,14 @@
+pub mod Numbers
+pub mod Hits
+pub mod Accesses
+pub mod Shown
+pub mod Saves
+pub mod Goods
+pub mod Answers
+pub mod HeldOnce
+pub mod FrameLists
+pub mod Adding
+pub mod Rooms
+pub mod Written
+pub mod Ends
+pub mod Fresh

@@ -1,0 +1,217 @@
+-- The windows of a group stand apart, each of whole pages.
+use Rattle.std.proofs.Common.{◌≡◌, ◌≢◌, ℕ, zero, suc, ◌+◌, ◌-◌, ◌*◌, ◌/◌, ◌%◌, ◌<◌, ◌≤◌, ◌⊎◌, ◌==◌, Bool, true, false, ◌&&◌, ◌||◌, not, List, [], ◌∷◌, ◌++◌, length, refl, sym, ap, ◌∙◌, subst, arith, ⊎_elim, inl, inr}
+use Rattle.std.specs.Prelude.{if◌then◌else◌, nat_le, slice_index_or}
+use Rattle.std.specs.List.{All, list_any}
+use Rattle.std.proofs.lemmas.Bool.{cases_lt}
+use Rattle.std.proofs.lemmas.Bool.Decides.{nat_tests}
+use Rattle.nx_ram.specs.declared.prog_image.ProgImage.{ProgImage}
+use Rattle.nx_space.specs.World.{Own, Part, Plan}
+use Rattle.nx_space.specs.Places.{lies_in, place_in, written_at, is_clear}
+use Rattle.nx_space.specs.Starts.{no_program, program_at, stack_low, pages_of, has_slot}
+use Rattle.nx_paged.specs.Tenants.{are_once}
+use Rattle.nx_paged.specs.Spans.{Span, Each, span_of, stack_span, stack_spans, spans_of, part_of, parts_from, IsSpan, IsApart, AreApart}
+use Rattle.nx_paged.specs.Paging.{Paging, paged_plan, IsLaidOut, FitsPaged, IsTenant}
+
+-- facts of each of two lists
+pub each_append : (P : Span → Type 0) (xs ys : List Span) → Each P xs → Each P ys → Each P (xs ++ ys)
+each_append P [] ys h k = k
+each_append P (x ∷ xs) ys h k = (h.0, each_append P xs ys h.1 k)
+
+pub apart_append : (xs ys : List Span) → AreApart xs → AreApart ys → Each (λ x. Each (IsApart x) ys) xs → AreApart (xs ++ ys)
+apart_append [] ys h k both = k
+apart_append (x ∷ xs) ys h k both = (each_append (IsApart x) xs ys h.0 both.0, apart_append xs ys h.1 k both.1)
+
+-- what stands at a place of a list
+pub laid_out : (ps : List ProgImage) (i : ℕ) → All IsLaidOut ps → i < length ps → IsLaidOut (slice_index_or ps i no_program)
+laid_out ps i h l = h i no_program l
+
+-- a window within bounds
+pub record IsWithin (low high : ℕ) (s : Span) : Type 0 where
+  pub fine : IsSpan s
+  pub low_is : low ≤ s.start
+  pub high_is : s.start + s.bytes ≤ high
+
+whole_pages : (at n low high : ℕ) (writes : Bool) → at % 4096 ≡ 0 → high % 4096 ≡ 0 → high ≤ 4294967296 → low ≤ at → at + n ≤ high → IsWithin low high (record { start = at; bytes = 4096 * pages_of n; writes = writes })
+whole_pages at n low high writes a h top l u = record {
+  fine = record { start = a; bytes = omega arith; top = omega (arith, a, h, top, u) };
+  low_is = l;
+  high_is = omega (arith, a, h, u);
+}
+
+pub bytes_within : (at : ℕ) (writes : Bool) (bs : List ℕ) (low high : ℕ) → at % 4096 ≡ 0 → high % 4096 ≡ 0 → high ≤ 4294967296 → low ≤ at → at + length bs ≤ high → Each (IsWithin low high) (span_of at writes bs)
+bytes_within at writes [] low high a h top l u = tt
+bytes_within at writes (b ∷ bs) low high a h top l u = (whole_pages at (length (b ∷ bs)) low high writes a h top l u, tt)
+
+one_apart : (at : ℕ) (writes : Bool) (bs : List ℕ) → AreApart (span_of at writes bs)
+one_apart at writes [] = tt
+one_apart at writes (b ∷ bs) = (tt, tt)
+
+-- the windows of two ranges
+ranges_apart : (low middle high : ℕ) (xs ys : List Span) → Each (IsWithin low middle) xs → Each (IsWithin middle high) ys → Each (λ x. Each (IsApart x) ys) xs
+ranges_apart low middle high [] ys h k = tt
+ranges_apart low middle high (x ∷ xs) ys h k = (one ys k, ranges_apart low middle high xs ys h.1 k)
+  where
+    one : (zs : List Span) → Each (IsWithin middle high) zs → Each (IsApart x) zs
+    one [] k = tt
+    one (z ∷ zs) k = (let a = h.0.high_is in let b = k.0.low_is in inl (omega (arith, a, b)), one zs k.1)
+
+pub wider : (low low2 high high2 : ℕ) (xs : List Span) → low2 ≤ low → high ≤ high2 → Each (IsWithin low high) xs → Each (IsWithin low2 high2) xs
+wider low low2 high high2 [] l u h = tt
+wider low low2 high high2 (x ∷ xs) l u h = (let a = h.0.low_is in let b = h.0.high_is in record { fine = h.0.fine; low_is = omega (arith, a, l); high_is = omega (arith, b, u) }, wider low low2 high high2 xs l u h.1)
+
+pub all_fine : (low high : ℕ) (xs : List Span) → Each (IsWithin low high) xs → Each IsSpan xs
+all_fine low high [] h = tt
+all_fine low high (x ∷ xs) h = (h.0.fine, all_fine low high xs h.1)
+
+-- what is asked of stacks: slot 0's at 0x40000000, each 2 MiB after the one before, and 1 MiB at most
+pub record FitsStacks (plan : Plan) : Type 0 where
+  pub at : plan.stacks_at ≡ 0x40000000
+  pub stride : plan.stride ≡ 0x200000
+  pub one : 1 ≤ plan.stack
+  pub whole : plan.stack % 4096 ≡ 0
+  pub most : plan.stack ≤ 0x100000
+  pub few : plan.threads ≤ 64
+
+low_is : (plan : Plan) (slot : ℕ) → FitsStacks plan → stack_low plan slot ≡ 0x40000000 + slot * 0x200000
+low_is plan slot f = ap (λ n. n + slot * plan.stride) f.at ∙ ap (λ n. 0x40000000 + slot * n) f.stride
+
+pub stack_within : (plan : Plan) (slot : ℕ) → FitsStacks plan → slot < plan.threads → IsWithin 0x40000000 0x48000000 (stack_span plan slot)
+stack_within plan slot f l =
+    let low = low_is plan slot f in
+    let most = f.most in
+    let few = f.few in
+    record {
+      fine = record { start = omega (arith, low); bytes = omega arith; top = omega (arith, low, most, few, l) };
+      low_is = omega (arith, low);
+      high_is = omega (arith, low, most, few, l);
+    }
+
+pub stacks_within : (plan : Plan) (slots : List ℕ) → FitsStacks plan → All (λ slot. slot < plan.threads) slots → Each (IsWithin 0x40000000 0x48000000) (stack_spans plan slots)
+stacks_within plan [] f h = tt
+stacks_within plan (slot ∷ slots) f h = (stack_within plan slot f (h 0 slot (omega arith)), stacks_within plan slots f (λ k d l. h (suc k) d (omega (arith, l))))
+
+both_apart : (plan : Plan) (a b : ℕ) → FitsStacks plan → a ≢ b → IsApart (stack_span plan a) (stack_span plan b)
+both_apart plan a b f ne =
+    let x = low_is plan a f in
+    let y = low_is plan b f in
+    let most = f.most in
+    ⊎_elim (λ l. inl (omega (arith, x, y, most, l))) (λ l. inr (omega (arith, x, y, most, l, ne))) (cases_lt a b)
+
+pub new_apart : (plan : Plan) (slot : ℕ) (slots : List ℕ) → FitsStacks plan → has_slot slots slot ≡ false → Each (IsApart (stack_span plan slot)) (stack_spans plan slots)
+new_apart plan slot [] f h = tt
+new_apart plan slot (s ∷ ss) f h = by_test (s == slot) refl h (λ q. new_apart plan slot ss f q)
+  where
+    differs : (s == slot) ≡ false → slot ≢ s
+    differs e = grind (arith, nat_tests)
+
+    by_test : (b : Bool) → (s == slot) ≡ b → (b || has_slot ss slot) ≡ false → (has_slot ss slot ≡ false → Each (IsApart (stack_span plan slot)) (stack_spans plan ss)) → Each (IsApart (stack_span plan slot)) (stack_spans plan (s ∷ ss))
+    by_test true e q more = absurd cc
+    by_test false e q more = (both_apart plan slot s f (differs e), more q)
+
+pub stacks_apart : (plan : Plan) (slots : List ℕ) → FitsStacks plan → are_once slots ≡ true → AreApart (stack_spans plan slots)
+stacks_apart plan [] f h = tt
+stacks_apart plan (slot ∷ slots) f h = by_test (has_slot slots slot) refl h (λ q. stacks_apart plan slots f q)
+  where
+    by_test : (b : Bool) → has_slot slots slot ≡ b → (not b && are_once slots) ≡ true → (are_once slots ≡ true → AreApart (stack_spans plan slots)) → AreApart (stack_spans plan (slot ∷ slots))
+    by_test true e q more = absurd cc
+    by_test false e q more = (new_apart plan slot slots f e, more q)
+
+-- all windows of a group
+pub record AreLaidOut (spans : List Span) : Type 0 where
+  pub fine : Each IsSpan spans
+  pub apart : AreApart spans
+
+pub group_laid_out : (plan : Plan) (place : ℕ) (slots : List ℕ) → FitsStacks plan → IsLaidOut (program_at plan place) → are_once slots ≡ true → All (λ slot. slot < plan.threads) slots → AreLaidOut (spans_of plan place slots)
+group_laid_out plan place slots f p once h =
+    let q = program_at plan place in
+    let ta = p.text_at in
+    let tx = p.text in
+    let da = p.data_at in
+    let ia = p.init in
+    let text = bytes_within q.text_at false q.text 0x00010000 0x10000000 (omega (arith, ta)) (omega arith) (omega arith) (omega (arith, ta)) tx in
+    let contents = bytes_within q.data_at true q.init 0x10000000 0x40000000 (omega (arith, da)) (omega arith) (omega arith) (omega (arith, da)) ia in
+    let stacks = stacks_within plan slots f h in
+    let tail = each_append (IsWithin 0x10000000 0x48000000) (span_of q.data_at true q.init) (stack_spans plan slots)
+    (wider 0x10000000 0x10000000 0x40000000 0x48000000 (span_of q.data_at true q.init) (omega arith) (omega arith) contents)
+    (wider 0x40000000 0x10000000 0x48000000 0x48000000 (stack_spans plan slots) (omega arith) (omega arith) stacks) in
+    let tail_apart = apart_append (span_of q.data_at true q.init) (stack_spans plan slots) (one_apart q.data_at true q.init) (stacks_apart plan slots f once)
+    (ranges_apart 0x10000000 0x40000000 0x48000000 (span_of q.data_at true q.init) (stack_spans plan slots) contents stacks) in
+    record {
+      fine = each_append IsSpan (span_of q.text_at false q.text) (span_of q.data_at true q.init ++ stack_spans plan slots)
+          (all_fine 0x00010000 0x10000000 (span_of q.text_at false q.text) text)
+          (all_fine 0x10000000 0x48000000 (span_of q.data_at true q.init ++ stack_spans plan slots) tail);
+      apart = apart_append (span_of q.text_at false q.text) (span_of q.data_at true q.init ++ stack_spans plan slots) (one_apart q.text_at false q.text) tail_apart
+          (ranges_apart 0x00010000 0x10000000 0x48000000 (span_of q.text_at false q.text) (span_of q.data_at true q.init ++ stack_spans plan slots) text tail);
+    }
+
+-- a window is one of these
+abbrev pub IsAmong : Span → List Span → Type 0
+IsAmong s [] = ⊥
+IsAmong s (t ∷ ts) = (t ≡ s) ⊎ IsAmong s ts
+
+pub among_right : (s : Span) (xs ys : List Span) → IsAmong s ys → IsAmong s (xs ++ ys)
+among_right s [] ys h = h
+among_right s (x ∷ xs) ys h = inr (among_right s xs ys h)
+
+pub among_left : (s : Span) (xs ys : List Span) → IsAmong s xs → IsAmong s (xs ++ ys)
+among_left s [] ys h = absurd h
+among_left s (x ∷ xs) ys h = ⊎_elim (λ e. inl e) (λ r. inr (among_left s xs ys r)) h
+
+stack_among : (plan : Plan) (slot : ℕ) (slots : List ℕ) → list_any (λ s. s == slot) slots ≡ true → IsAmong (stack_span plan slot) (stack_spans plan slots)
+stack_among plan slot [] h = absurd cc
+stack_among plan slot (s ∷ ss) h = by_test (s == slot) refl h (λ q. stack_among plan slot ss q)
+  where
+    same : (s == slot) ≡ true → s ≡ slot
+    same e = grind (arith, nat_tests)
+
+    by_test : (b : Bool) → (s == slot) ≡ b → (b || has_slot ss slot) ≡ true → (has_slot ss slot ≡ true → IsAmong (stack_span plan slot) (stack_spans plan ss)) → IsAmong (stack_span plan slot) (stack_spans plan (s ∷ ss))
+    by_test true e q more = inl (ap (stack_span plan) (same e))
+    by_test false e q more = inr (more q)
+
+-- bytes of a window that may be written may be written
+apart_of : (s : Span) (x : Span) (xs : List Span) → Each (IsApart x) xs → IsAmong s xs → IsApart x s
+apart_of s x [] h a = absurd a
+apart_of s x (y ∷ ys) h a = ⊎_elim (λ e. subst (IsApart x) e h.0) (λ r. apart_of s x ys h.1 r) a
+
+not_held : (k : ℕ) (t s : Span) (at n : ℕ) → IsApart t s → 1 ≤ n → s.start ≤ at → at + n ≤ s.start + s.bytes → lies_in (part_of k t) at n ≡ false
+unfolding lies_in
+not_held k t s at n a one low high = ⊎_elim (λ l. grind (arith, nat_tests, l, one, low, high)) (λ l. grind (arith, nat_tests, l, one, low, high)) a
+
+is_held : (k : ℕ) (s : Span) (at n : ℕ) → s.start ≤ at → at + n ≤ s.start + s.bytes → lies_in (part_of k s) at n ≡ true
+unfolding lies_in
+is_held k s at n low high = grind (arith, nat_tests, low, high)
+
+pub held_clear : (pool k : ℕ) (spans : List Span) (s : Span) (at n : ℕ) → AreApart spans → IsAmong s spans → s.writes ≡ true → 1 ≤ n → s.start ≤ at → at + n ≤ s.start + s.bytes → is_clear pool (written_at (parts_from k spans) at n) ≡ true
+unfolding place_in parts_from
+held_clear pool k [] s at n a m w one low high = absurd m
+held_clear pool k (t ∷ ts) s at n a m w one low high =
+    ⊎_elim
+    (λ e.
+    let start = ap (λ x. x.start) e in
+    let bytes = ap (λ x. x.bytes) e in
+    let writes = ap (λ x. x.writes) e ∙ w in
+    let held : lies_in (part_of k t) at n ≡ true = is_held k t at n (omega (arith, start, low)) (omega (arith, start, bytes, high)) in
+    rw (held, writes) refl)
+    (λ r.
+    let held : lies_in (part_of k t) at n ≡ false = not_held k t s at n (apart_of s t ts a.0 r) one low high in
+    rw held (held_clear pool (k + 1) ts s at n a.1 r w one low high))
+    m
+
+pub stack_held : (plan : Plan) (place : ℕ) (slots : List ℕ) (slot : ℕ) → FitsStacks plan → AreApart (spans_of plan place slots) → list_any (λ s. s == slot) slots ≡ true → is_clear plan.pool (written_at (parts_from 0 (spans_of plan place slots)) (stack_low plan slot) plan.stack) ≡ true
+stack_held plan place slots slot f a h =
+    let q = program_at plan place in
+    held_clear plan.pool 0 (spans_of plan place slots) (stack_span plan slot) (stack_low plan slot) plan.stack a
+    (among_right (stack_span plan slot) (span_of q.text_at false q.text) (span_of q.data_at true q.init ++ stack_spans plan slots) (among_right (stack_span plan slot) (span_of q.data_at true q.init) (stack_spans plan slots) (stack_among plan slot slots h)))
+    refl f.one (omega arith) (omega arith)
+
+data_among : (at : ℕ) (bs : List ℕ) → 1 ≤ length bs → IsAmong (record { start = at; bytes = 4096 * pages_of (length bs); writes = true }) (span_of at true bs)
+data_among at [] h = absurd (omega (arith, h))
+data_among at (b ∷ bs) h = inl refl
+
+pub data_held : (plan : Plan) (place : ℕ) (slots : List ℕ) → AreApart (spans_of plan place slots) → 1 ≤ length (program_at plan place).init → is_clear plan.pool (written_at (parts_from 0 (spans_of plan place slots)) (program_at plan place).data_at (length (program_at plan place).init)) ≡ true
+data_held plan place slots a h =
+    let q = program_at plan place in
+    let s : Span = record { start = q.data_at; bytes = 4096 * pages_of (length q.init); writes = true } in
+    held_clear plan.pool 0 (spans_of plan place slots) s q.data_at (length q.init) a
+    (among_right s (span_of q.text_at false q.text) (span_of q.data_at true q.init ++ stack_spans plan slots) (among_left s (span_of q.data_at true q.init) (stack_spans plan slots) (data_among q.data_at q.init h)))
+    refl h (omega arith) (omega arith)

@@ -1,0 +1,11 @@
+pub mod Tenants
+pub mod Spans
+pub mod Outside
+pub mod Paging
+pub mod Finding
+pub mod Layout
+pub mod Lawful
+pub mod Walks
+pub mod Building
+pub mod Writing
+pub mod State

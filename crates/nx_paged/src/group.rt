@@ -1,0 +1,82 @@
+ghost use Rattle.std.specs.Prelude.{◌≡◌, ◌<◌, [], ◌∷◌, ◌++◌, length};
+ghost use Rattle.nx_frames.specs.declared.frames.Taken.{Taken};
+ghost use Rattle.nx_paged.specs.Tenants.{Tenant, root_of, place_of};
+
+use arrayvec::ArrayVec;
+use nx_frames::Taken;
+use std::marker::Model;
+
+/// A group that has a view: its program's place, the slot of its main thread, the frame of its root,
+/// the slots whose stacks it has, and its frames.
+#[derive(Drop)]
+pub struct PagedGroup {
+    number: u32,
+    program: usize,
+    slot: u32,
+    root: u32,
+    slots: ArrayVec<u32, 64>,
+    taken: Taken,
+}
+
+impl Model for PagedGroup {
+    ghost use Rattle.nx_paged.specs.Tenants.{Tenant};
+
+    ghost Value = { Tenant };
+
+    ghost view = { λ g. record { number = g.number; program = g.program; slot = g.slot; root = g.root; slots = g.slots.items; taken = g.taken } };
+}
+
+impl PagedGroup {
+    /// The group's number.
+    pub fn number(&self) -> u32
+        ensures { result ≡ self.now.number }
+    {
+        self.number
+    }
+
+    /// The frame of the group's root, counted from the RAM's start.
+    pub fn root(&self) -> u32
+        ensures { result ≡ self.now.root }
+    {
+        self.root
+    }
+
+    /// The frames of a group that ends.
+    pub fn into_taken(self) -> Taken
+        ensures { result ≡ self.taken }
+    {
+        let PagedGroup {
+            number: _,
+            program: _,
+            slot: _,
+            root: _,
+            slots: _,
+            taken,
+        } = self;
+        taken
+    }
+}
+
+/// The frame of the root of the first group of a number, or 0.
+pub fn root_of(groups: &[PagedGroup], number: u32) -> u32
+    ensures { result ≡ root_of groups.now number }
+{
+    for i in 0..groups.len() {
+        if groups[i].number() == number {
+            return groups[i].root();
+        }
+    }
+    0
+}
+
+/// Where the first group of a number stands, or how many groups there are.
+pub fn find(groups: &[PagedGroup], number: u32) -> usize
+    ensures { result ≡ place_of groups.now number }
+{
+    for i in 0..groups.len() {
+        if groups[i].number() == number {
+            return i;
+        }
+    }
+    groups.len()
+}

@@ -1,0 +1,13 @@
+//! An address space of page tables: each group has tables of its own in the RAM, and sees what a walk
+//! from its root gives.
+#![tactic(auto)]
+
+mod build;
+mod group;
+mod laws;
+mod paged;
+mod walks;
+mod write;
+
+pub use laws::a_paged_world_is_lawful;
+pub use paged::PagedSpace;
