@@ -10,5 +10,13 @@ pub mod FrameLists
 pub mod Adding
 pub mod Rooms
 pub mod Written
+pub mod Regions
+pub mod Looks
+pub mod Roots
+pub mod Zeros
+pub mod Mapped
+pub mod Needs
+pub mod Begun
+pub mod Newcomers
 pub mod Ends
 pub mod Fresh

@@ -9,3 +9,4 @@ pub mod Walks
 pub mod Building
 pub mod Writing
 pub mod State
+pub mod Starting

@@ -14,6 +14,7 @@ fn frame_number(frames: &Frames, taken: &Taken, i: u32) -> u32
     requires held { Holds frames.now taken.now }
     requires below { i < taken.now.count }
     ensures number { result ≡ (slice_index (frames_of frames.now taken.now) i - ram_start) / 4096 }
+    ensures low { result < 524288 }
     ensures small { i + 1 < 2 ^ 32 }
 {
     let _count = taken.count();
@@ -32,7 +33,7 @@ fn add_table(
 ) -> u32
     requires held { Holds frames.now taken.now }
     requires region { region < 1024 }
-    requires room { HasRoom (frames_of frames.now taken.now) root (region ∷ []) 0 ram.old used }
+    requires room { ∥ HasRoom (frames_of frames.now taken.now) root (region ∷ []) 0 ram.old used ∥₁ }
     ensures adds { Adds (frames_of frames.now taken.now) root (region ∷ []) [] ram.old used ram.new result }
 {
     match table_of(ram, root, region) {
@@ -57,7 +58,7 @@ fn add_page(
 ) -> u32
     requires held { Holds frames.now taken.now }
     requires page { page < 1048576 }
-    requires room { HasRoom (frames_of frames.now taken.now) root (page / 1024 ∷ []) 1 ram.old used }
+    requires room { ∥ HasRoom (frames_of frames.now taken.now) root (page / 1024 ∷ []) 1 ram.old used ∥₁ }
     ensures adds { Adds (frames_of frames.now taken.now) root (page / 1024 ∷ []) (record { page = page; writes = writes } ∷ []) ram.old used ram.new result }
 {
     let used = add_table(ram, frames, taken, used, root, page / 1024);
@@ -84,7 +85,7 @@ pub fn add_pages(
 ) -> u32
     requires held { Holds frames.now taken.now }
     requires pages { first + count ≤ 1048576 }
-    requires room { HasRoom (frames_of frames.now taken.now) root (regions_of (entries_from first count writes)) count ram.old used }
+    requires room { ∥ HasRoom (frames_of frames.now taken.now) root (regions_of (entries_from first count writes)) count ram.old used ∥₁ }
     ensures adds { Adds (frames_of frames.now taken.now) root (regions_of (entries_from first count writes)) (entries_from first count writes) ram.old used ram.new result }
 {
     let mut used = used;

@@ -27,6 +27,22 @@ impl Model for PagedGroup {
 }
 
 impl PagedGroup {
+    /// A group with the stack of its main thread's slot.
+    pub fn new(number: u32, program: usize, slot: u32, root: u32, taken: Taken) -> PagedGroup
+        ensures { result ≡ record { number = number; program = program; slot = slot; root = root; slots = slot ∷ []; taken = taken } }
+    {
+        let mut slots = ArrayVec::new();
+        slots.push(slot);
+        PagedGroup {
+            number,
+            program,
+            slot,
+            root,
+            slots,
+            taken,
+        }
+    }
+
     /// The group's number.
     pub fn number(&self) -> u32
         ensures { result ≡ self.now.number }

@@ -6,6 +6,7 @@ mod build;
 mod group;
 mod laws;
 mod paged;
+mod program;
 mod walks;
 mod write;
 

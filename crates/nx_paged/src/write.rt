@@ -11,7 +11,7 @@ use nx_sv32::walk;
 // Writes bytes of one page, `from` bytes after the start of a window of `size` bytes.
 fn write_page(ram: &mut Ram, satp: u32, at: u32, size: u32, from: u32, bytes: &[u8])
     requires fits { ram_start + length ram.old ≤ 2 ^ 32 }
-    requires place { HasPlace ram.old satp at size }
+    requires place { ∥ HasPlace ram.old satp at size ∥₁ }
     requires page { from % 4096 ≡ 0 }
     requires one { length bytes.now ≤ 4096 }
     requires some { from < size }
@@ -29,13 +29,13 @@ fn write_page(ram: &mut Ram, satp: u32, at: u32, size: u32, from: u32, bytes: &[
 /// Writes bytes from the start of a window of `size` bytes on, where the tables map it.
 pub fn write_bytes(ram: &mut Ram, satp: u32, at: u32, size: u32, bytes: &[u8])
     requires fits { ram_start + length ram.old ≤ 2 ^ 32 }
-    requires place { HasPlace ram.old satp at size }
+    requires place { ∥ HasPlace ram.old satp at size ∥₁ }
     requires inside { length bytes.now ≤ size }
-    requires small { AreBytes ram.old }
     ensures writes { WritesAll ram.old ram.new satp at size 0 bytes.now }
     ensures small { AreBytes ram.new }
     ensures long { length ram.new ≡ length ram.old }
 {
+    let _size = ram.len();
     let count = bytes.len();
     for k in 0..(count + 4095) / 4096 {
         let from = 4096 * k;

@@ -56,7 +56,7 @@ seen_alike old new satp start n same =
     ext_get_or 0 _ _ (l ∙ sym (length-seen old satp start n)) (λ k h. same k (omega (arith, h, l)))
 
 -- what each byte of a window is before and after
-seen_by_frames : (old new : List ℕ) (role : ℕ → Role) (g : ℕ) (m : Maps) (start n : ℕ) (writes : Bool) → Stands old role g m → Stands new role g m → IsMapped m start n writes → start + n ≤ 4294967296 → ((at : ℕ) → start ≤ at → at < start + n → (p : PageAt m at writes) → get_or new (4096 * p.page.frame + at % 4096) 0 ≡ get_or old (4096 * p.page.frame + at % 4096) 0) → seen new (satp_of m.root) start n ≡ seen old (satp_of m.root) start n
+pub seen_by_frames : (old new : List ℕ) (role : ℕ → Role) (g : ℕ) (m : Maps) (start n : ℕ) (writes : Bool) → Stands old role g m → Stands new role g m → IsMapped m start n writes → start + n ≤ 4294967296 → ((at : ℕ) → start ≤ at → at < start + n → (p : PageAt m at writes) → get_or new (4096 * p.page.frame + at % 4096) 0 ≡ get_or old (4096 * p.page.frame + at % 4096) 0) → seen new (satp_of m.root) start n ≡ seen old (satp_of m.root) start n
 seen_by_frames old new role g m start n writes s t mapped top same = seen_alike old new (satp_of m.root) start n (λ k l.
     let p = mapped (start + k) (omega arith) (omega (arith, l)) in
     get-seen new (satp_of m.root) start n k l

@@ -1,4 +1,6 @@
 use Rattle.std.proofs.Common.{◌*◌, ◌+◌, ◌<◌, ◌≤◌, ◌∙◌, refl, subst, arith, take, length}
+use Rattle.std.proofs.Props.{props}
+use Rattle.std.proofs.Math.Logic.{∥∥₁_elim}
 use Rattle.std.specs.Prelude.{slice_range}
 use Rattle.std.proofs.lemmas.List.{take_all}
 use Rattle.nx_paged.specs.Writing.{WritesAll}
@@ -6,10 +8,10 @@ use Rattle.nx_paged.proofs.Written.{place_after, writes_more, writes_none, page_
 use Rattle.nx_paged.proofs.write.write_bytes.Goals as goal
 
 pub loop-k-init : goal.loop-k-init
-loop-k-init c = record { writes = writes_none c.args.ram.now c.args.satp c.args.at c.args.size c.args.bytes.now; small = c.requires.small; long = refl }
+loop-k-init c = record { writes = writes_none c.args.ram.now c.args.satp c.args.at c.args.size c.args.bytes.now; small = c.len-size.ensures.bytes; long = refl }
 
 pub write_page-requires-clause-place : goal.write_page-requires-clause-place
-write_page-requires-clause-place c = place_after c.args.ram.now c.loop-k.ram c.args.satp c.args.at c.args.size 0 (take (4096 * c.loop-k.k) c.args.bytes.now) c.requires.place c.loop-k.invariant.writes
+write_page-requires-clause-place c = ∥∥₁_elim c.requires.place (hlevel props) (λ h. ∣ place_after c.args.ram.now c.loop-k.ram c.args.satp c.args.at c.args.size 0 (take (4096 * c.loop-k.k) c.args.bytes.now) h c.loop-k.invariant.writes ∣₁)
 
 pub loop-k-preserved : goal.loop-k-preserved
 loop-k-preserved c =

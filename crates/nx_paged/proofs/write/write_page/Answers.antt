@@ -1,24 +1,30 @@
 use Rattle.std.proofs.Common.{◌-◌, subst, sym, arith}
+use Rattle.std.proofs.Props.{props}
+use Rattle.std.proofs.Math.Logic.{∥∥₁_elim}
 use Rattle.nx_sv32.specs.Walk.{ram_start}
 use Rattle.nx_paged.specs.Writing.{WritesAll}
 use Rattle.nx_paged.proofs.Written.{no_fault, page_in, page_put}
 use Rattle.nx_paged.proofs.write.write_page.Goals as goal
 
 pub overflow_sub-to : goal.overflow_sub-to
-overflow_sub-to c = let a = c.args in (page_in a.ram.now a.satp a.at a.size a.from c.in-Ok.to c.requires.place c.requires.some c.requires.page c.in-Ok.ensures).low
+overflow_sub-to c = let a = c.args in ∥∥₁_elim c.requires.place (hlevel props) (λ h. (page_in a.ram.now a.satp a.at a.size a.from c.in-Ok.to h c.requires.some c.requires.page c.in-Ok.ensures).low)
 
 pub put-requires : goal.put-requires
 put-requires c =
     let a = c.args in
-    let p = page_in a.ram.now a.satp a.at a.size a.from c.in-Ok.to c.requires.place c.requires.some c.requires.page c.in-Ok.ensures in
-    let h = p.high in
     let one = c.requires.one in
-    omega (arith, h, one)
+    ∥∥₁_elim c.requires.place (hlevel props) (λ q.
+    let p = page_in a.ram.now a.satp a.at a.size a.from c.in-Ok.to q c.requires.some c.requires.page c.in-Ok.ensures in
+    let h = p.high in
+    omega (arith, h, one))
 
 pub unreachable-requires : goal.unreachable-requires
-unreachable-requires c = let a = c.args in no_fault a.ram.now a.satp a.at a.size a.from c.in-Err.field-0 c.requires.place c.requires.some c.requires.page c.in-Err.ensures
+unreachable-requires c = let a = c.args in ∥∥₁_elim c.requires.place (hlevel props) (λ h. no_fault a.ram.now a.satp a.at a.size a.from c.in-Err.field-0 h c.requires.some c.requires.page c.in-Err.ensures)
 
 pub returns-clause-writes : goal.returns-clause-writes
 returns-clause-writes c =
     let a = c.args in
     subst (λ r. WritesAll a.ram.now r a.satp a.at a.size a.from a.bytes.now) (sym c.put.ensures.bytes) (page_put a.ram.now a.satp a.at a.size a.from c.in-Ok.to a.bytes.now c.requires.some c.requires.page c.requires.one c.requires.inside c.in-Ok.ensures)
+
+pub overflow_add-at : goal.overflow_add-at
+overflow_add-at c = let some = c.requires.some in ∥∥₁_elim c.requires.place (hlevel props) (λ h. let top = h.place.top in omega (arith, top, some))
