@@ -18,5 +18,6 @@ pub mod Mapped
 pub mod Needs
 pub mod Begun
 pub mod Newcomers
+pub mod Started
 pub mod Ends
 pub mod Fresh

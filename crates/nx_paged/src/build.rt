@@ -9,8 +9,8 @@ use nx_ram::Ram;
 use nx_space::RAM_START;
 use nx_tables::{map_page, map_table, table_of};
 
-// The number of the `i`-th frame that was taken, counted from the RAM's start.
-fn frame_number(frames: &Frames, taken: &Taken, i: u32) -> u32
+/// The number of the `i`-th frame that was taken, counted from the RAM's start.
+pub fn frame_number(frames: &Frames, taken: &Taken, i: u32) -> u32
     requires held { Holds frames.now taken.now }
     requires below { i < taken.now.count }
     ensures number { result ≡ (slice_index (frames_of frames.now taken.now) i - ram_start) / 4096 }

@@ -7,6 +7,7 @@ mod group;
 mod laws;
 mod paged;
 mod program;
+mod regs;
 mod walks;
 mod write;
 

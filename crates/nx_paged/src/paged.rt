@@ -1,25 +1,33 @@
-ghost use Rattle.std.specs.Prelude.{◌≡◌, ◌+◌, ◌*◌, ◌%◌, ◌^◌, ◌<◌, ◌≤◌, true, [], length, IfOk, Ok, Err, MatchResult, OnErr};
+ghost use Rattle.std.specs.Prelude.{◌≡◌, false, ◌+◌, ◌*◌, ◌%◌, ◌^◌, ◌<◌, ◌≤◌, true, [], length, IfOk, IfErr, Ok, Err, MatchResult, OnOk, OnErr, vec_capacity};
 ghost use Rattle.nx_base.specs.declared.access.Access.TheVariants as access;
 ghost use Rattle.nx_base.specs.Views.{fetch_word, load_bytes, store_bytes};
 ghost use Rattle.nx_base.specs.Good.{is_good};
 ghost use Rattle.nx_ram.specs.Widths.{IsWidth};
 ghost use Rattle.nx_space.specs.World.{IsEntered, has_view, view_in};
 ghost use Rattle.nx_space.specs.Lawful.{OnlyEntered};
-ghost use Rattle.nx_space.specs.Starts.{free, finished, but_outside};
+ghost use Rattle.nx_space.specs.Starts.{start_need, start_regs, free, started, finished, but_outside};
 ghost use Rattle.nx_sv32.specs.Walk.{ram_start};
 ghost use Rattle.nx_tables.specs.Maps.{satp_of};
 ghost use Rattle.nx_paged.specs.Tenants.{root_of};
 ghost use Rattle.nx_paged.specs.Paging.{Paging, IsPlaced, IsPaged, FitsPaged, fresh_world};
 
+use crate::build::frame_number;
 use crate::group::{PagedGroup, find, root_of};
+use crate::program::{map_program, program_need};
+use crate::regs::regs_with;
 use crate::walks::are_walked;
 use nx_base::causes::{FETCH_PAGE_FAULT, LOAD_PAGE_FAULT, STORE_PAGE_FAULT};
-use nx_base::{Access, OutOfMemory, PAGE_BYTES};
-use nx_frames::Frames;
+use nx_base::{Access, OutOfMemory, PAGE_BYTES, Regs};
+use nx_frames::{Frames, TooFew};
 use nx_ram::{ProgImage, Ram};
 use nx_space::RAM_START;
 use nx_sv32::walk;
 use std::alloc::Global;
+
+// Slot 0's stack, and the bytes from one slot's stack to the next.
+const STACKS_AT: u32 = 0x40000000;
+
+const STACK_STRIDE: u32 = 0x200000;
 
 /// Page tables in a RAM. The first bytes of the RAM are the kernel's pool; the frames after it hold
 /// the tables and the pages of the groups.
@@ -38,6 +46,7 @@ pub struct PagedSpace {
     ghost paged: { ∥ IsPaged (record { ram = ram; pool = pool; programs = programs.items; stack = stack; threads = threads; stock = frames; tenants = groups.items; entered = entered }) ∥₁ },
     ghost root_is: { root ≡ root_of groups.items entered },
     ghost root_low: { root < 524288 },
+    ghost room: { threads ≤ vec_capacity groups },
 }
 
 impl PagedSpace {
@@ -170,6 +179,47 @@ impl PagedSpace {
         match walk(&self.ram, self.satp(), at, Access::Store) {
             Ok(to) => self.ram.store(to - RAM_START, 1, value as u32),
             Err(_) => unreachable!(),
+        }
+    }
+
+    /// Gives a new group its view, in frames of its own: its text, its data and the stack of `slot`.
+    /// This answers the registers of its main thread.
+    pub fn start(&mut self, group: u32, prog: usize, slot: u32, fresh: bool) -> Result<Regs, TooFew>
+        requires new { has_view (world_of self.old).groups group ≡ false }
+        requires room { length (world_of self.old).groups < (world_of self.old).plan.threads }
+        requires prog { prog < length (world_of self.old).plan.programs }
+        requires slot { slot < (world_of self.old).plan.threads }
+        ensures regs { IfOk result (λ regs. regs ≡ start_regs (world_of self.old).plan prog slot) }
+        ensures started { OnOk result (world_of self.new ≡ but_outside (started (world_of self.old) group prog slot fresh) (world_of self.new)) }
+        ensures enough { OnOk result (start_need (world_of self.old).plan prog slot ≤ free (world_of self.old)) }
+        ensures too_few { IfErr result (λ few. (few ≡ record { need = start_need (world_of self.old).plan prog slot; free = free (world_of self.old) }) × (few.free < few.need)) }
+        ensures refused { OnErr result (world_of self.new ≡ world_of self.old) }
+    {
+        let _always = fresh;
+        let program = &self.programs[prog];
+        let low = STACKS_AT + slot * STACK_STRIDE;
+        let need = program_need(program, low, self.stack);
+        match self.frames.take(&mut self.ram, need) {
+            Ok(taken) => {
+                let root = frame_number(&self.frames, &taken, 0);
+                map_program(
+                    &mut self.ram,
+                    &self.frames,
+                    &taken,
+                    root,
+                    program,
+                    low,
+                    self.stack,
+                );
+                let regs = regs_with(program.end_group, low, low + self.stack, program.main);
+                // There is room for as many groups as there may be threads.
+                let _ = self
+                    .groups
+                    .push(PagedGroup::new(group, prog, slot, root, taken));
+                self.root = root_of(&self.groups, self.entered);
+                Ok(regs)
+            }
+            Err(few) => Err(few),
         }
     }
 

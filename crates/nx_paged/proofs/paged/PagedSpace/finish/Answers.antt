@@ -44,6 +44,7 @@ invariant_of-self c =
       paged = paged;
       root_is = is;
       root_low = subst (λ r. r < 524288) (sym is) (root_low (record (state_of s) { stock = c.give.new.self; tenants = c.remove.new.self.items }) s.entered placed paged);
+      room = let e = c.remove.ensures.capacity in let r = s.room in omega (arith, e, r);
     }
 
 pub returns : goal.returns

@@ -35,6 +35,7 @@ invariant_of-self c =
       paged = subst (λ r. ∥ IsPaged (with_ram (state_of s) r) ∥₁) (sym c.store.ensures.bytes) (store_paged (state_of s) c.satp.result c.args.at c.args.width c.args.value c.in-Ok.to a i c.in-Ok.ensures);
       root_is = s.root_is;
       root_low = s.root_low;
+      room = s.room;
     }
 
 pub returns-in-Ok-clause-answer : goal.returns-in-Ok-clause-answer
