@@ -2,6 +2,7 @@
 //! Which tokens have which tree stands in `specs/Expressions.antt`, `Statements.antt` and `Programs.antt`.
 #![tactic(auto)]
 
+mod checked;
 mod expression;
 mod laws;
 mod program;
@@ -9,6 +10,10 @@ mod shared;
 mod sign;
 mod statement;
 
+pub use checked::{
+    ArrayName, Cell, Checked, CheckedExpr, CheckedFunction, CheckedPlace, CheckedStmt, Conversion,
+    Element, GlobalArray, GlobalScalar, IntOperator, IntPrefix, Scalar, Shape, StepValue, UsedCall,
+};
 pub use expression::{
     AssignOperator, BinaryOperator, Expr, ExprKind, Place, PlaceKind, StepOperator, UnaryOperator,
 };
