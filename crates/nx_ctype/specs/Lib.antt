@@ -1,0 +1,4 @@
+pub mod Named
+pub mod Types
+pub mod Rules
+pub mod Verdicts

@@ -1,0 +1,323 @@
+-- The typing rules, one for each operator: what it gives and does, by the types of its operands.
+use Rattle.std.specs.Prelude.{ℕ, ◌+◌, ◌==◌, Bool, true, false, ◌&&◌, List, [], ◌∷◌, ◌++◌, length, map, position, Option, None, Some, Result, Ok, Err, is_some, if◌then◌else◌}
+use Rattle.std.specs.List.{list_all, zip}
+use Rattle.std.specs.Map.{lookup}
+use Rattle.std.specs.Str.{bytes_eq}
+use Rattle.nx_base.specs.declared.calls.Kind.{Kind}
+use Rattle.nx_base.specs.declared.calls.Kind.TheVariants as kind
+use Rattle.nx_base.specs.declared.calls.KCall.{KCall}
+use Rattle.nx_base.specs.declared.calls.KCall.TheVariants as kcall
+use Rattle.nx_calls.specs.declared.row.CallRow.{CallRow}
+use Rattle.nx_ctok.specs.declared.fault.CKind.{CKind}
+use Rattle.nx_ctok.specs.declared.fault.CKind.TheVariants as fault
+use Rattle.nx_ctree.specs.declared.program.Base.{Base}
+use Rattle.nx_ctree.specs.declared.program.Base.TheVariants as base
+use Rattle.nx_ctree.specs.declared.expression.UnaryOperator.{UnaryOperator}
+use Rattle.nx_ctree.specs.declared.expression.UnaryOperator.TheVariants as unary
+use Rattle.nx_ctree.specs.declared.expression.StepOperator.{StepOperator}
+use Rattle.nx_ctree.specs.declared.expression.StepOperator.TheVariants as step
+use Rattle.nx_ctree.specs.declared.expression.BinaryOperator.{BinaryOperator}
+use Rattle.nx_ctree.specs.declared.expression.BinaryOperator.TheVariants as binary
+use Rattle.nx_ctree.specs.declared.expression.AssignOperator.{AssignOperator}
+use Rattle.nx_ctree.specs.declared.expression.AssignOperator.TheVariants as assign
+use Rattle.nx_ctree.specs.declared.checked.Element.{Element}
+use Rattle.nx_ctree.specs.declared.checked.Element.TheVariants as element
+use Rattle.nx_ctree.specs.declared.checked.Scalar.{Scalar}
+use Rattle.nx_ctree.specs.declared.checked.Scalar.TheVariants as scalar
+use Rattle.nx_ctree.specs.declared.checked.Cell.{Cell}
+use Rattle.nx_ctree.specs.declared.checked.Conversion.TheVariants as convert
+use Rattle.nx_ctree.specs.declared.checked.IntPrefix.TheVariants as prefix
+use Rattle.nx_ctree.specs.declared.checked.IntOperator.{IntOperator}
+use Rattle.nx_ctree.specs.declared.checked.IntOperator.TheVariants as operator
+use Rattle.nx_ctree.specs.declared.checked.StepValue.{StepValue}
+use Rattle.nx_ctree.specs.declared.checked.CheckedExpr.{CheckedExpr}
+use Rattle.nx_ctree.specs.declared.checked.CheckedExpr.TheVariants as expr
+use Rattle.nx_ctree.specs.declared.checked.CheckedPlace.{CheckedPlace}
+use Rattle.nx_ctree.specs.declared.checked.CheckedPlace.TheVariants as place
+use Rattle.nx_ctype.specs.declared.types.CType.{CType}
+use Rattle.nx_ctype.specs.declared.types.CType.TheVariants as type
+use Rattle.nx_ctype.specs.declared.types.Held.{Held}
+use Rattle.nx_ctype.specs.declared.types.Function.{Function}
+use Rattle.nx_ctype.specs.declared.types.Typed.{Typed}
+use Rattle.nx_ctype.specs.declared.types.Target.{Target}
+use Rattle.nx_ctype.specs.declared.types.Target.TheVariants as target
+use Rattle.nx_ctype.specs.declared.names.Names.{Names}
+use Rattle.nx_ctype.specs.Types.{is_same, takes, type_of}
+
+-- A rule that doesn't take its operands.
+abbrev pub wrong : {A : Type 0} → Result A CKind
+wrong = Err fault.TypeMismatch
+
+abbrev pub typed : CType → CheckedExpr → Result Typed CKind
+typed g t = Ok (record { gives = g; tree = t })
+
+-- Parentheses take what has a value.
+abbrev pub valued : CType → Typed → Result Typed CKind
+valued type.Void x = wrong
+valued _ x = Ok x
+
+abbrev pub paren_rule : Typed → Result Typed CKind
+paren_rule x = valued x.gives x
+
+-- "-", "!" and "~" take a number, "*" a pointer (C11 6.5.3).
+abbrev pub unary_typed : UnaryOperator → CType → CheckedExpr → Result Typed CKind
+unary_typed unary.Minus type.Int t = typed type.Int (expr.Unary prefix.Minus t)
+unary_typed unary.Not type.Int t = typed type.Int (expr.Unary prefix.Not t)
+unary_typed unary.Complement type.Int t = typed type.Int (expr.Unary prefix.Complement t)
+unary_typed unary.Deref (type.Pointer w c) t = typed type.Int (expr.Load w (place.Deref t))
+unary_typed _ _ t = wrong
+
+abbrev pub unary_rule : UnaryOperator → Typed → Result Typed CKind
+unary_rule op x = unary_typed op x.gives x.tree
+
+-- What an operator does with two numbers.
+abbrev pub numbers : BinaryOperator → CheckedExpr → CheckedExpr → CheckedExpr
+numbers binary.Or a b = expr.Or a b
+numbers binary.And a b = expr.And a b
+numbers binary.BitOr a b = expr.Binary operator.BitOr a b
+numbers binary.BitXor a b = expr.Binary operator.BitXor a b
+numbers binary.BitAnd a b = expr.Binary operator.BitAnd a b
+numbers binary.Equal a b = expr.Binary operator.Equal a b
+numbers binary.NotEqual a b = expr.Binary operator.NotEqual a b
+numbers binary.Less a b = expr.Binary operator.Less a b
+numbers binary.AtMost a b = expr.Binary operator.AtMost a b
+numbers binary.Greater a b = expr.Binary operator.Greater a b
+numbers binary.AtLeast a b = expr.Binary operator.AtLeast a b
+numbers binary.ShiftLeft a b = expr.Binary operator.ShiftLeft a b
+numbers binary.ShiftRight a b = expr.Binary operator.ShiftRight a b
+numbers binary.Add a b = expr.Binary operator.Add a b
+numbers binary.Subtract a b = expr.Binary operator.Subtract a b
+numbers binary.Multiply a b = expr.Binary operator.Multiply a b
+numbers binary.Divide a b = expr.Binary operator.Divide a b
+numbers binary.Remainder a b = expr.Binary operator.Remainder a b
+
+-- A pointer and a number after it: "+" and "-" move it.
+abbrev pub pointer_first : BinaryOperator → Element → Bool → CheckedExpr → CheckedExpr → Result Typed CKind
+pointer_first binary.Add w c a b = typed (type.Pointer w c) (expr.Advance w a b)
+pointer_first binary.Subtract w c a b = typed (type.Pointer w c) (expr.Retreat w a b)
+pointer_first _ w c a b = wrong
+
+-- A number and a pointer after it: "+" moves it.
+abbrev pub pointer_second : BinaryOperator → Element → Bool → CheckedExpr → CheckedExpr → Result Typed CKind
+pointer_second binary.Add w c a b = typed (type.Pointer w c) (expr.AdvanceBy w a b)
+pointer_second _ w c a b = wrong
+
+-- All operators take two numbers (C11 6.5.5 to 6.5.14).
+abbrev pub binary_typed : BinaryOperator → CType → CType → CheckedExpr → CheckedExpr → Result Typed CKind
+binary_typed op type.Int type.Int a b = typed type.Int (numbers op a b)
+binary_typed op (type.Pointer w c) type.Int a b = pointer_first op w c a b
+binary_typed op type.Int (type.Pointer w c) a b = pointer_second op w c a b
+binary_typed op _ _ a b = wrong
+
+abbrev pub binary_rule : BinaryOperator → Typed → Typed → Result Typed CKind
+binary_rule op x y = binary_typed op x.gives y.gives x.tree y.tree
+
+-- Two numbers, or two pointers of one type.
+abbrev pub is_equal : Bool → Bool → Bool
+is_equal true c = c
+is_equal false true = false
+is_equal false false = true
+
+abbrev pub are_one_type : CType → CType → Bool
+are_one_type type.Int type.Int = true
+are_one_type (type.Pointer w c) (type.Pointer v d) = is_same w v && is_equal c d
+are_one_type _ _ = false
+
+-- "?:" takes a number, and two values of one type, which is its own (C11 6.5.15).
+abbrev pub choice : CType → CType → CType → Option CType
+choice type.Int g h = if are_one_type g h then Some g else None
+choice _ g h = None
+
+abbrev pub conditional_typed : Option CType → CheckedExpr → CheckedExpr → CheckedExpr → Result Typed CKind
+conditional_typed (Some g) c a b = typed g (expr.Conditional c a b)
+conditional_typed None c a b = wrong
+
+abbrev pub conditional_rule : Typed → Typed → Typed → Result Typed CKind
+conditional_rule c x y = conditional_typed (choice c.gives x.gives y.gives) c.tree x.tree y.tree
+
+-- An index takes a pointer and a number; so does its address (C11 6.5.2.1, 6.5.3.2).
+abbrev pub pointed : CType → CType → Option (Element × Bool)
+pointed (type.Pointer w c) type.Int = Some (w, c)
+pointed _ _ = None
+
+abbrev pub index_typed : Option (Element × Bool) → CheckedExpr → CheckedExpr → Result Typed CKind
+index_typed (Some p) a i = typed type.Int (expr.Load p.0 (place.Index a i))
+index_typed None a i = wrong
+
+abbrev pub index_rule : Typed → Typed → Result Typed CKind
+index_rule x i = index_typed (pointed x.gives i.gives) x.tree i.tree
+
+abbrev pub address_typed : Option (Element × Bool) → CheckedExpr → CheckedExpr → Result Typed CKind
+address_typed (Some p) a i = typed (type.Pointer p.0 p.1) (expr.AddressOf p.0 a i)
+address_typed None a i = wrong
+
+abbrev pub address_rule : Typed → Typed → Result Typed CKind
+address_rule x i = address_typed (pointed x.gives i.gives) x.tree i.tree
+
+-- A number may be cast to a number, to a char or to a pointer (C11 6.5.4).
+abbrev pub cast_to : Base → Bool → CheckedExpr → Result Typed CKind
+cast_to base.Int false t = typed type.Int (expr.Convert convert.ToInt t)
+cast_to base.Char false t = typed type.Int (expr.Convert convert.ToChar t)
+cast_to base.ConstChar false t = wrong
+cast_to base.Int true t = typed (type.Pointer element.Int false) (expr.Convert convert.ToPointer t)
+cast_to base.Char true t = typed (type.Pointer element.Char false) (expr.Convert convert.ToPointer t)
+cast_to base.ConstChar true t = typed (type.Pointer element.Char true) (expr.Convert convert.ToPointer t)
+
+abbrev pub cast_typed : Base → Bool → CType → CheckedExpr → Result Typed CKind
+cast_typed b star type.Int t = cast_to b star t
+cast_typed b star _ t = wrong
+
+abbrev pub cast_rule : Base → Bool → Typed → Result Typed CKind
+cast_rule b star x = cast_typed b star x.gives x.tree
+
+-- The places "a[i]" and "*p".
+abbrev pub index_target : Option (Element × Bool) → CheckedExpr → CheckedExpr → Result Target CKind
+index_target (Some p) a i = Ok (target.Element p.0 p.1 (place.Index a i))
+index_target None a i = wrong
+
+abbrev pub index_place : Typed → Typed → Result Target CKind
+index_place x i = index_target (pointed x.gives i.gives) x.tree i.tree
+
+abbrev pub deref_target : CType → CheckedExpr → Result Target CKind
+deref_target (type.Pointer w c) a = Ok (target.Element w c (place.Deref a))
+deref_target _ a = wrong
+
+abbrev pub deref_place : Typed → Result Target CKind
+deref_place x = deref_target x.gives x.tree
+
+-- The operator before "=".
+abbrev pub compound_of : AssignOperator → Option IntOperator
+compound_of assign.Set = None
+compound_of assign.Add = Some operator.Add
+compound_of assign.Subtract = Some operator.Subtract
+compound_of assign.Multiply = Some operator.Multiply
+compound_of assign.Divide = Some operator.Divide
+compound_of assign.Remainder = Some operator.Remainder
+
+-- "+=" and "-=" take a pointer, and all such operators a number; the right side is a number (C11 6.5.16.2).
+abbrev pub moves : IntOperator → Bool
+moves operator.Add = true
+moves operator.Subtract = true
+moves _ = false
+
+abbrev pub compounds : IntOperator → Scalar → CType → Bool
+compounds op scalar.Int type.Int = true
+compounds op scalar.Char type.Int = true
+compounds op (scalar.Pointer w) type.Int = moves op
+compounds op _ _ = false
+
+-- An assignment to a variable.
+abbrev pub cell_assign : Option IntOperator → Cell → Held → Typed → Result Typed CKind
+cell_assign None x h e = if takes (type_of h) e.gives then typed (type_of h) (expr.Assign h.scalar x e.tree) else wrong
+cell_assign (Some op) x h e = if compounds op h.scalar e.gives then typed (type_of h) (expr.Compound op h.scalar x e.tree) else wrong
+
+-- An assignment to an element, which is a number.
+abbrev pub element_assign : Option IntOperator → Element → CheckedPlace → CType → CheckedExpr → Result Typed CKind
+element_assign None w p type.Int e = typed type.Int (expr.AssignElement w p e)
+element_assign (Some op) w p type.Int e = typed type.Int (expr.CompoundElement op w p e)
+element_assign _ w p _ e = wrong
+
+-- Nothing is stored where one may only read, nor to an array as a whole (C11 6.5.16).
+abbrev pub assign_rule : AssignOperator → Target → Typed → Result Typed CKind
+assign_rule op (target.Cell x h) e = cell_assign (compound_of op) x h e
+assign_rule op (target.Element w false p) e = element_assign (compound_of op) w p e.gives e.tree
+assign_rule op (target.Element w true p) e = wrong
+assign_rule op target.Array e = wrong
+
+abbrev pub is_up : StepOperator → Bool
+is_up step.Increment = true
+is_up step.Decrement = false
+
+-- "++" and "--" take a number or a pointer (C11 6.5.2.4, 6.5.3.1).
+abbrev pub step_rule : StepValue → StepOperator → Target → Result Typed CKind
+step_rule v op (target.Cell x h) = typed (type_of h) (expr.Step v (is_up op) h.scalar x)
+step_rule v op (target.Element w false p) = typed type.Int (expr.StepElement v (is_up op) w p)
+step_rule v op (target.Element w true p) = wrong
+step_rule v op target.Array = wrong
+
+-- A call of a function of the file takes as many arguments as it has parameters, of their types (C11 6.5.2.2).
+abbrev pub all_taken : List Held → List Typed → Bool
+all_taken hs xs = list_all (λ p. takes (type_of p.0) p.1.gives) (zip hs xs)
+
+abbrev pub fits_params : List Held → List Typed → Bool
+fits_params hs xs = if length hs == length xs then all_taken hs xs else false
+
+abbrev pub returned : Bool → CType
+returned true = type.Int
+returned false = type.Void
+
+abbrev pub file_rule : Function → List Typed → Result Typed CKind
+file_rule f xs = if fits_params f.params xs then typed (returned f.returns) (expr.Call f.place (map (λ x. x.tree) xs)) else wrong
+
+-- What a call of the table takes for a parameter.
+abbrev pub kind_takes : Kind → CType → Bool
+kind_takes kind.Word type.Int = true
+kind_takes kind.Len type.Int = true
+kind_takes kind.In (type.Pointer w c) = true
+kind_takes kind.Text (type.Pointer element.Char c) = true
+kind_takes kind.Out (type.Pointer w false) = true
+kind_takes kind.Out4 (type.Pointer element.Int false) = true
+kind_takes kind.Out8 (type.Pointer element.Int false) = true
+kind_takes _ _ = false
+
+abbrev pub all_kinds_take : List Kind → List Typed → Bool
+all_kinds_take ks xs = list_all (λ p. kind_takes p.0 p.1.gives) (zip ks xs)
+
+abbrev pub fits_kinds : List Kind → List Typed → Bool
+fits_kinds ks xs = if length ks == length xs then all_kinds_take ks xs else false
+
+-- Whether a row is that of the call that starts a thread.
+abbrev pub starts_thread : Option KCall → Bool
+starts_thread (Some kcall.NxThread) = true
+starts_thread _ = false
+
+-- That call takes a function's name and a number.
+abbrev pub entry_takes : CType → CType → Bool
+entry_takes type.Entry type.Int = true
+entry_takes _ _ = false
+
+abbrev pub fits_entry : List Typed → Bool
+fits_entry [] = false
+fits_entry (x ∷ []) = false
+fits_entry (x ∷ y ∷ []) = entry_takes x.gives y.gives
+fits_entry (x ∷ y ∷ z ∷ xs) = false
+
+abbrev pub fits_row : CallRow → List Typed → Bool
+fits_row row xs = if starts_thread row.kernel then fits_entry xs else fits_kinds row.kinds.items xs
+
+-- A call by the table, by its place among the calls that are used.
+abbrev pub row_rule : CallRow → ℕ → List Typed → Result Typed CKind
+row_rule row k xs = if fits_row row xs then typed (returned row.returns) (expr.Kernel k (map (λ x. x.tree) xs)) else wrong
+
+-- The place of a call among those that are used, and these with it.
+abbrev pub with_call : Option ℕ → ℕ → List ℕ → ℕ × List ℕ
+with_call (Some k) row calls = (k, calls)
+with_call None row calls = (length calls, calls ++ row ∷ [])
+
+abbrev pub enter : ℕ → List ℕ → ℕ × List ℕ
+enter row calls = with_call (position (λ c. c == row) calls) row calls
+
+-- The function that a thread starts with has one parameter, an int, and returns an int.
+abbrev pub is_int : Scalar → Bool
+is_int scalar.Int = true
+is_int scalar.Char = false
+is_int (scalar.Pointer w) = false
+
+abbrev pub is_one_int : List Held → Bool
+is_one_int [] = false
+is_one_int (h ∷ []) = is_int h.scalar
+is_one_int (h ∷ g ∷ hs) = false
+
+abbrev pub entry_function : Function → Result Typed CKind
+entry_function f = if f.returns && is_one_int f.params then typed type.Entry (expr.Function f.place) else wrong
+
+-- A name as that argument: a local hides the function, and a variable of the file is none.
+abbrev pub entry_named : Bool → Option Function → Bool → Result Typed CKind
+entry_named true f global = wrong
+entry_named false (Some f) global = entry_function f
+entry_named false None true = wrong
+entry_named false None false = Err fault.UnknownName
+
+abbrev pub entry_rule : Names → List ℕ → Result Typed CKind
+entry_rule names name =
+    entry_named (is_some (lookup (bytes_eq name) names.locals)) (lookup (bytes_eq name) names.functions) (is_some (lookup (bytes_eq name) names.globals))
