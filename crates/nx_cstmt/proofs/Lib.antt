@@ -1,0 +1,9 @@
+pub mod Signs
+pub mod Parts
+pub mod Lists
+pub mod Laws
+pub mod Starts
+pub mod Sound
+pub mod Complete
+pub mod Growth
+pub mod Last
