@@ -13,3 +13,6 @@ mod write;
 
 pub use laws::a_paged_world_is_lawful;
 pub use paged::PagedSpace;
+
+#[cfg(test)]
+mod tests;
