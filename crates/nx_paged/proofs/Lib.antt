@@ -19,5 +19,6 @@ pub mod Needs
 pub mod Begun
 pub mod Newcomers
 pub mod Started
+pub mod Shares
 pub mod Ends
 pub mod Fresh

@@ -11,7 +11,10 @@ mod regs;
 mod walks;
 mod write;
 
-pub use laws::a_paged_world_is_lawful;
+pub use laws::{
+    a_paged_world_is_lawful, frames_are_taken_and_given_back, groups_share_no_byte,
+    the_view_is_what_the_walk_gives,
+};
 pub use paged::PagedSpace;
 
 #[cfg(test)]

@@ -1,0 +1,8 @@
+use Rattle.nx_paged.proofs.Shares.{start_takes, end_gives}
+use Rattle.nx_paged.proofs.laws.frames_are_taken_and_given_back.Goals as goal
+
+pub returns-clause-start : goal.returns-clause-start
+returns-clause-start c = start_takes
+
+pub returns-clause-end : goal.returns-clause-end
+returns-clause-end c = end_gives
