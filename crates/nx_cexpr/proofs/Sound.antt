@@ -37,6 +37,7 @@ use Rattle.nx_cexpr.specs.Types.{begins_base, const_rest, base_by, base_pick, ba
 use Rattle.nx_cexpr.specs.Operands
 use Rattle.nx_cexpr.specs.Operands.{expr_of, place_of}
 use Rattle.nx_cexpr.specs.Reading.{Below, next_rest, comma_pick, arguments_rest, call_rest, name_rest, paren_rest, primary_pick, element_rest, element_pick, elements, indexed, step_by, step_pick, post_element, post, place_rest, place_element, place_call, place_name, deref_rest, place_pick, unary_rest, address_rest, before_rest, cast_rest, group_rest, group, size_of_name_rest, size_of_type_rest, size_of_pick, size_of_rest, prefix_pick, unary_pick, right_rest, operator_by, operator_pick, conditional_rest, conditional_pick, assign_rest, assign_by, assign_pick, level_rest, level_pick, has_node, within, level_at, expr_at}
+use Rattle.nx_cexpr.specs.Laws.{WasThere}
 use Rattle.nx_cexpr.proofs.SignLaws.{Is, true_is, operator_found}
 use Rattle.nx_cexpr.proofs.Laws.{Lows, lows, both, comma_rounds, element_rounds, operator_rounds, level_then, primary_passes, base_passes, level_at_passes, expr_then}
 
@@ -682,12 +683,8 @@ sounds (suc d) = record {
 
 -- ---- Whole expressions.
 
-pub record FoundTall (d : ℕ) (ts : List Signed) (x : Tall) (rest : List Signed) : Type 0 where
-  pub has : IsExpr whole ts x.expr x.height rest
-  pub within : x.height ≤ d
-
-pub expr_sound : (d : ℕ) (ts : List Signed) (x : Tall) (rest : List Signed) → expr_at d ts ≡ Ok (x, rest) → FoundTall d ts x rest
+pub expr_sound : (d : ℕ) (ts : List Signed) (x : Tall) (rest : List Signed) → expr_at d ts ≡ Ok (x, rest) → WasThere d ts x rest
 expr_sound d ts x rest h =
     let a = bound (level_at d whole ts) (λ y. done (Operands.tall y)) (x, rest) (sym (expr_then d ts) ∙ h) in
     let f = (sounds d).level 13 (omega arith) ts a.0 a.1 a.2 in
-    moved (λ z r. FoundTall d ts z r) (Operands.tall a.0) x a.1 rest (ok_same (Operands.tall a.0) x a.1 rest a.3) (record { has = f.has; within = f.within })
+    moved (λ z r. WasThere d ts z r) (Operands.tall a.0) x a.1 rest (ok_same (Operands.tall a.0) x a.1 rest a.3) (record { has = f.has; within = f.within })

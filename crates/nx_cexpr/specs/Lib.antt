@@ -3,3 +3,4 @@ pub mod Operands
 pub mod Types
 pub mod Reading
 pub mod Answers
+pub mod Laws

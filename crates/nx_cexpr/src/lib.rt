@@ -3,12 +3,14 @@
 #![tactic(auto)]
 
 mod operand;
+mod reading;
 mod signs;
 mod stop;
 mod tokens;
 mod types;
 
 pub use operand::Tall;
+pub use reading::an_expression_that_is_read_was_there;
 pub use stop::ParseStop;
 pub use tokens::{Rest, expect};
 pub use types::{base, star};
