@@ -39,7 +39,7 @@ same_front [] (y ∷ b) r e = absurd (omega (arith, ap length e, length-append b
 same_front (x ∷ a) [] r e = absurd (omega (arith, ap length e, length-append a r))
 same_front (x ∷ a) (y ∷ b) r e = let t : a ≡ b = same_front a b r cc in cc
 
--- A token and what was taken behind it, put to the front.
+-- A token and what was taken after it, put to the front.
 regroup : {T : Type 0} (front taken more r : List T) (token : T) → more ≡ taken ++ r → front ++ token ∷ more ≡ ((front ++ token ∷ []) ++ taken) ++ r
 regroup front taken more r token e = ap (λ x. front ++ token ∷ x) e ∙ sym (append_assoc front (token ∷ []) (taken ++ r)) ∙ sym (append_assoc (front ++ token ∷ []) taken r)
 

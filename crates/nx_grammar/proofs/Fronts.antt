@@ -26,7 +26,7 @@ front_then ts mid rest f g = record {
   listed = λ r. f.listed (g.before r) ∙ ap (λ x. f.list ++ x) (g.listed r) ∙ sym (append_assoc f.list g.list r);
 }
 
--- What stands behind a front is no longer than the whole.
+-- What stands after a front is no longer than the whole.
 pub front_shorter : {T : Type 0} (ts rest : List T) → Front ts rest → length rest ≤ length ts
 front_shorter ts rest f = let e : ts ≡ f.list ++ rest = f.from ∙ f.listed rest in omega (arith, ap length e ∙ length-append f.list rest)
 

@@ -20,7 +20,7 @@ shortens_lives read F I lives = record { on = λ ts. shortens_case read F I ts (
 pub shortens : {T A : Type 0} (read : Reading T A) (F I : T → Type 0) → Law read F I → Shortens read
 shortens read F I law = shortens_lives read F I law.lives
 
--- ---- One reading behind another.
+-- ---- One reading after another.
 
 module _ {T A B : Type 0} (next : A → Reading T B) (short : (a : A) → Shortens (next a)) where
   -- What was taken stays taken.
@@ -34,7 +34,7 @@ module _ {T A B : Type 0} (next : A → Reading T B) (short : (a : A) → Shorte
       }
   beyond_more rest (Err x) b = record { token = b.token; taken = b.taken; is = b.is }
 
-  -- What became of a fault becomes of it with more behind it.
+  -- What became of a fault becomes of it with more after it.
   pub fault_grown : (kind : Kind) (rest : List T) (o : Out T A) → GrownFault kind rest o → GrownFault kind rest (bind o next)
   fault_grown Syntax rest o h = ap (λ x. bind x next) h
   fault_grown Limit rest o h = beyond_more rest o h
@@ -51,12 +51,12 @@ module _ {T A B : Type 0} (next : A → Reading T B) (short : (a : A) → Shorte
       (h.0 ++ s.0, h.1 ∙ ap (λ y. h.0 ++ y) s.1 ∙ sym (append_assoc h.0 s.0 (left (next x.0 x.1))))
   short_bind ts (Err e) h = h
 
-  -- One reading behind another leaves an end of the list.
+  -- One reading after another leaves an end of the list.
   pub shortens_seq : (read : Reading T A) → Shortens read → Shortens (seq read next)
   shortens_seq read s = record { on = λ ts. short_bind ts (read ts) (s.on ts) }
 
   module _ (narrow wide : Reading T A) (before : A → Reading T B) (grows : Grows narrow wide) where
-    -- One reading behind another against a wider limit.
+    -- One reading after another against a wider limit.
     pub grows_seq : ((a : A) → Grows (before a) (next a)) → Grows (seq narrow before) (seq wide next)
     grows_seq more = record { on = λ ts. bind_grown before (narrow ts) (wide ts) (λ a us e. (more a).on us) (grows.on ts) }
 
@@ -95,7 +95,7 @@ module _ {T A : Type 0} where
 
 -- ---- Both laws at once.
 
--- Of one reading behind another.
+-- Of one reading after another.
 pub wider_seq : {T A B : Type 0} (narrow wide : Reading T A) (before next : A → Reading T B) → Wider narrow wide → ((a : A) → Wider (before a) (next a)) → Wider (seq narrow before) (seq wide next)
 wider_seq narrow wide before next first more = record {
   grows = grows_seq next (λ a. (more a).short) narrow wide before first.grows (λ a. (more a).grows);

@@ -33,12 +33,12 @@ module _ {T A : Type 0} (pick : A → T → Pick T A) (F H : T → Type 0) (law 
   at_once : (a : A) (ts : List T) → Ending (loop pick a) F F ts (λ r. r)
   at_once a ts = record { value = a; words = λ r. r; ends = λ r h. loop_stops a r h; meets = λ r h. inr h }
 
-  -- A round is read again before each text that the rounds behind it begin.
+  -- A round is read again before each text that the rounds after it begin.
   met_round : (read : Reading T A) (us : List T) (b : A) (mid : List T) → (w : Passed read H Any us b mid) → (r : List T) → Meets F mid r → read (w.front.before r) ≡ Ok (b, r)
   met_round read us b mid w r (inl h) = w.again r h
   met_round read us b mid w r (inr h) = w.other r (heads_fit F H law.fits r h)
 
-  -- A round that was read, and the outcome of the rounds behind it.
+  -- A round that was read, and the outcome of the rounds after it.
   then_case : (a : A) (t : T) (us : List T) (read : Reading T A) → pick a t ≡ Take read → (b : A) (mid : List T) → Passed read H Any us b mid → (o : Out T A) → Lawful (loop pick b) F F mid o → Lawful (loop pick a) F F (t ∷ us) o
   then_case a t us read e b mid w (Ok y) z = record {
     front = front_take t us y.1 (front_then us mid y.1 w.front z.front);

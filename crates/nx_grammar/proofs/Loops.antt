@@ -21,7 +21,7 @@ bind_same : {T A : Type 0} (o : Out T A) (go on : A → Reading T A) → ((b : A
 bind_same (Ok x) go on h = h x.0 x.1 refl
 bind_same (Err e) go on h = refl
 
--- So are two ways to go on behind a round.
+-- So are two ways to go on after a round.
 round_same : {T A : Type 0} (x : Pick T A) (t : T) (us : List T) (go on : A → Reading T A) → ((read : Reading T A) → x ≡ Take read → (b : A) (rest : List T) → read us ≡ Ok (b, rest) → go b rest ≡ on b rest) → round x t us go ≡ round x t us on
 round_same (Refuse kind) t us go on h = refl
 round_same (Pass a) t us go on h = refl

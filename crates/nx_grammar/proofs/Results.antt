@@ -5,7 +5,7 @@ use Rattle.nx_grammar.specs.declared.kind.Kind.{Kind}
 use Rattle.nx_grammar.specs.declared.kind.Kind.TheVariants.{Syntax}
 use Rattle.nx_grammar.specs.Reading.{Out, Reading, Refuse, Take, picked, bind, done, expect}
 
--- What was read by one reading behind another was read by each.
+-- What was read by one reading after another was read by each.
 pub bound : {T A B : Type 0} (o : Out T A) (next : A → Reading T B) (y : B × List T) → bind o next ≡ Ok y → (a : A) × (mid : List T) × (o ≡ Ok (a, mid)) × (next a mid ≡ Ok y)
 bound (Ok x) next y e = (x.0, x.1, refl, e)
 bound (Err x) next y e = absurd cc
@@ -14,7 +14,7 @@ bound (Err x) next y e = absurd cc
 ok_one : {X E : Type 0} (x y : X) → (let r : Result X E = Ok x in r) ≡ Ok y → x ≡ y
 ok_one x y e = cc
 
--- One result is one tree and one list behind it.
+-- One result is one tree and one list after it.
 pub ok_same : {T A : Type 0} (a b : A) (r s : List T) → (let o : Out T A = Ok (a, r) in o) ≡ Ok (b, s) → (a ≡ b) × (r ≡ s)
 ok_same {T = T} {A = A} a b r s e = let p = ok_one {X = A × List T} {E = Kind × List T} (a, r) (b, s) e in (ap (λ (x : A × List T). x.0) p, ap (λ (x : A × List T). x.1) p)
 

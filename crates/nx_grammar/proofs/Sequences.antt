@@ -1,4 +1,4 @@
--- The law of one reading behind another: the first stops where the second begins.
+-- The law of one reading after another: the first stops where the second begins.
 use Rattle.std.proofs.Common.{◌≡◌, List, refl, ap, ◌∙◌, inl, inr}
 use Rattle.std.specs.Prelude.{Ok, Err}
 use Rattle.nx_grammar.specs.Reading.{Out, Reading, bind, seq, done}
@@ -17,7 +17,7 @@ module _ {T A : Type 0} (read : Reading T A) (F I J : T → Type 0) (ts : List T
   met_meets x r (inr h) = x.meets r (heads_fit J F fits r h)
 
 module _ {T A B : Type 0} (read : Reading T A) (next : A → Reading T B) (F I G J : T → Type 0) where
-  -- The second part's outcome, behind a first part that was read.
+  -- The second part's outcome, after a first part that was read.
   second : ((t : T) → J t → F t) → (ts : List T) (a : A) (mid : List T) → Passed read F I ts a mid → (o : Out T B) → Lawful (next a) G J mid o → Lawful (seq read next) G I ts o
   second fits ts a mid x (Ok y) z = record {
     front = front_then ts mid y.1 x.front z.front;
@@ -55,7 +55,7 @@ module _ {T A B : Type 0} (read : Reading T A) (next : A → Reading T B) (F I G
         };
       }
 
-  -- One reading behind another is lawful on each list.
+  -- One reading after another is lawful on each list.
   pub lives_seq : Lives read F I → ((a : A) → Law (next a) G J) → ((t : T) → J t → F t) → Lives (seq read next) G I
   lives_seq lives law fits = record { on = λ ts. first law fits ts (read ts) (lives.on ts) }
 
@@ -70,7 +70,7 @@ module _ {T A B : Type 0} (read : Reading T A) (next : A → Reading T B) (F I G
         first = λ r h. opens.first (o.words r) (heads_fit J F fits (o.words r) (o.first r h));
       }
 
-  -- The law of one reading behind another.
+  -- The law of one reading after another.
   pub law_seq : Law read F I → ((a : A) → Law (next a) G J) → ((t : T) → J t → F t) → Law (seq read next) G I
   law_seq law more fits = record { lives = lives_seq law.lives more fits; opens = opens_seq law.opens more fits }
 

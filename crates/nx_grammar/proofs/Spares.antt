@@ -10,7 +10,7 @@ use Rattle.nx_grammar.specs.Sparing.{Spares, SparesPick}
 use Rattle.nx_grammar.proofs.Loops.{shorter, loop_turn}
 
 module _ {T : Type 0} (E : T → Type 0) where
-  -- A list that goes on behind a token that is no last one ends behind it.
+  -- A list that goes on after a token that is no last one ends after it.
   not_last : (t : T) (ts : List T) → (E t → ⊥) → EndsIn E (t ∷ ts) → EndsIn E ts
   not_last t [] n h = absurd (n h)
   not_last t (u ∷ us) n h = h
@@ -20,7 +20,7 @@ module _ {T : Type 0} (E : T → Type 0) where
   spares_bind next more (Ok x) h = (more x.0).on x.1 h
   spares_bind next more (Err e) h = h
 
-  -- One reading behind another.
+  -- One reading after another.
   pub spares_seq : {A B : Type 0} (read : Reading T A) (next : A → Reading T B) → Spares E read → ((a : A) → Spares E (next a)) → Spares E (seq read next)
   spares_seq read next first more = record { on = λ ts h. spares_bind next more (read ts) (first.on ts h) }
 

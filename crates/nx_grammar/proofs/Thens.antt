@@ -1,4 +1,4 @@
--- The laws of what a pick begins with more behind it.
+-- The laws of what a pick begins with more after it.
 use Rattle.std.proofs.Common.{◌≡◌, List, refl, ap, subst}
 use Rattle.nx_grammar.specs.declared.kind.Kind.{Kind}
 use Rattle.nx_grammar.specs.declared.kind.Kind.TheVariants.{Syntax, Limit}
@@ -13,7 +13,7 @@ abbrev pub Takes : {T A : Type 0} → Pick T A → Type 0
 Takes {T = T} {A = A} x = (a : A) → x ≡ Pass a → ⊥
 
 module _ {T A B : Type 0} where
-  -- Where nothing is passed, it is the pick's reading and more behind it.
+  -- Where nothing is passed, it is the pick's reading and more after it.
   pub picked_then : (x : Pick T A) (next : A → Reading T B) (t : T) (ts : List T) → Takes x → picked (then_pick x next) t ts ≡ bind (picked x t ts) next
   picked_then (Refuse kind) next t ts h = refl
   picked_then (Pass a) next t ts h = absurd (h a refl)

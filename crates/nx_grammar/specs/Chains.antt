@@ -7,12 +7,12 @@ use Rattle.nx_grammar.specs.Reading.{Reading, Pick, Pass, Take}
 abbrev pub chain_pick : {T A : Type 0} → (T → Bool) → (A → Reading T A) → A → T → Pick T A
 chain_pick test right a t = if test t then Take (right a) else Pass a
 
--- What stands behind an operator at the front.
+-- What stands after an operator at the front.
 abbrev pub behind : {T : Type 0} → (T → Bool) → List T → Option (List T)
 behind test [] = None
 behind test (t ∷ ts) = if test t then Some ts else None
 
--- A chain that is over: a token stands behind it.
+-- A chain that is over: a token stands after it.
 abbrev pub closed : {T A : Type 0} → A → Reading T A
 closed a [] = Err (Syntax, [])
 closed a (t ∷ ts) = Ok (a, t ∷ ts)

@@ -16,7 +16,7 @@ IsOfKind Syntax Has begun = (limit : ℕ) → Begins (Has limit) begun → ⊥
 IsOfKind Limit Has begun = (limit : ℕ) × Begins (Has limit) begun
 
 -- Has limit ts tree: the tokens have this tree within the limit.
--- The fault of ts stands at the first token that ends no beginning of a list with a tree; rest is that token and those behind it.
+-- The fault of ts stands at the first token that ends no beginning of a list with a tree; rest is that token and those after it.
 pub record IsFault {T A : Type 0} (Has : ℕ → List T → A → Type 0) (limit : ℕ) (ts : List T) (kind : Kind) (rest : List T) : Type 0 where
   pub front : List T
   pub token : T

@@ -36,7 +36,7 @@ pub record Passed {T A : Type 0} (read : Reading T A) (F I : T → Type 0) (ts :
   pub other : (r : List T) → Heads F r → read (front.before r) ≡ Ok (a, r)
   pub meets : (r : List T) → Heads F r → Meets I ts (front.before r)
 
--- What was begun can be ended: some words behind it make it whole, before each token of F.
+-- What was begun can be ended: some words after it make it whole, before each token of F.
 pub record Ending {T A : Type 0} (read : Reading T A) (F I : T → Type 0) (ts : List T) (begun : List T → List T) : Type 0 where
   pub value : A
   pub words : List T → List T

@@ -3,7 +3,7 @@ use Rattle.std.specs.Prelude.{ℕ, zero, suc, Bool, if◌then◌else◌, List, [
 use Rattle.nx_grammar.specs.declared.kind.Kind.{Kind}
 use Rattle.nx_grammar.specs.declared.kind.Kind.TheVariants.{Syntax}
 
--- What was read and the tokens behind it, or why it was refused and the tokens from the refused one on.
+-- What was read and the tokens after it, or why it was refused and the tokens from the refused one on.
 abbrev pub Out : Type 0 → Type 0 → Type 0
 Out T A = Result (A × List T) (Kind × List T)
 
@@ -11,13 +11,13 @@ Out T A = Result (A × List T) (Kind × List T)
 abbrev pub Reading : Type 0 → Type 0 → Type 0
 Reading T A = List T → Out T A
 
--- What the next token does: it is refused, or it is left for others and this was read, or it is taken and this is read behind it.
+-- What the next token does: it is refused, or it is left for others and this was read, or it is taken and this is read after it.
 pub data Pick (T A : Type 0) : Type 0 where
   Refuse : Kind → Pick T A
   Pass : A → Pick T A
   Take : (List T → Result (A × List T) (Kind × List T)) → Pick T A
 
--- What a pick gives at a token with others behind it.
+-- What a pick gives at a token with others after it.
 abbrev pub picked : {T A : Type 0} → Pick T A → T → List T → Out T A
 picked (Refuse kind) t ts = Err (kind, t ∷ ts)
 picked (Pass a) t ts = Ok (a, t ∷ ts)
@@ -33,7 +33,7 @@ abbrev pub bind : {T A B : Type 0} → Out T A → (A → Reading T B) → Out T
 bind (Ok x) next = next x.0 x.1
 bind (Err e) next = Err e
 
--- One reading behind another.
+-- One reading after another.
 abbrev pub seq : {T A B : Type 0} → Reading T A → (A → Reading T B) → Reading T B
 seq read next ts = bind (read ts) next
 
@@ -49,7 +49,7 @@ expect_pick test t = if test t then Take (done t) else Refuse Syntax
 abbrev pub expect : {T : Type 0} → (T → Bool) → Reading T T
 expect test = dispatch (expect_pick test)
 
--- What a pick begins, and more behind it: so an alternative may be what another nonterminal begins.
+-- What a pick begins, and more after it: so an alternative may be what another nonterminal begins.
 abbrev pub then_pick : {T A B : Type 0} → Pick T A → (A → Reading T B) → Pick T B
 then_pick (Refuse kind) next = Refuse kind
 then_pick (Pass a) next = Refuse Syntax

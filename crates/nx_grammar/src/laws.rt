@@ -16,7 +16,7 @@ pub trait Grammar {
     /// Which tokens have which tree within a limit.
     ghost has: { ℕ → List Self.Token → Self.Tree → Type 0 };
 
-    /// The tokens that a whole list may have behind it.
+    /// The tokens that a whole list may have after it.
     ghost follows: { Self.Token → Type 0 };
 
     /// The tokens that the shortest whole list begins with.
