@@ -1,9 +1,7 @@
 -- What has a tree by the grammar is read, with that tree.
-use Rattle.std.proofs.Common.{◌≡◌, ℕ, zero, suc, Bool, true, false, List, [], ◌∷◌, ◌++◌, refl, sym, ap, ◌∙◌, subst}
-use Rattle.std.specs.Prelude.{Ok, Option, Some, None, if◌then◌else◌}
-use denote.Enum.Bare.{sameb}
-use Rattle.nx_ctree.specs.contracts.sign.Sign.{the_type}
-use Rattle.nx_grammar.specs.Reading.{Out, Reading, Pick, Refuse, Pass, Take, picked, dispatch, bind, seq, done, then_pick, loop}
+use Rattle.std.proofs.Common.{◌≡◌, ℕ, suc, Bool, true, false, List, [], ◌∷◌, refl, sym, ap, ◌∙◌}
+use Rattle.std.specs.Prelude.{Ok, Option, Some}
+use Rattle.nx_grammar.specs.Reading.{Out, Reading, Pick, Pass, picked, dispatch, then_pick, loop}
 use Rattle.nx_grammar.specs.Lawful.{Heads}
 use Rattle.nx_grammar.proofs.Thens.{picked_then}
 use Rattle.nx_ctree.specs.declared.sign.Sign.{Sign}
@@ -14,13 +12,15 @@ use Rattle.nx_ctree.specs.declared.statement.Stmt.{Stmt}
 use Rattle.nx_ctree.specs.declared.statement.StmtKind.{StmtKind}
 use Rattle.nx_ctree.specs.declared.statement.StmtKind.TheVariants as kind
 use Rattle.nx_ctree.specs.Statements.{stmt, IsPart, IsTest, Test, IsEnded, Absent, Given, IsStmt, IsStmts, Empty, Expression, Block, If, IfElse, While, Do, For, Break, Continue, Return, Done, More}
-use Rattle.nx_cstmt.specs.Lists.{more_pick}
-use Rattle.nx_cstmt.specs.Reading.{is_sign, sign_at, has_node, test_at, ended_rest, ended_pick, expression_rest, else_pick, if_rest, while_rest, do_rest, for_rest, jump_rest, return_rest, stmts_at, block_rest, begun, barred, stmt_pick, stmt_at}
-use Rattle.nx_cstmt.proofs.Signs.{Is, signed, not_signed, sign_on}
-use Rattle.nx_cstmt.proofs.Parts.{Parts}
-use Rattle.nx_cstmt.proofs.Lists.{is_over, on_from, list_goes, list_ends}
+use Rattle.nx_cstmt.specs.Lists.{more_pick, is_over}
+use Rattle.nx_cexpr.specs.Signs.{is_sign}
+use Rattle.nx_cexpr.specs.Reading.{has_node}
+use Rattle.nx_cstmt.specs.Reading.{test_at, ended_rest, ended_pick, expression_rest, else_pick, if_rest, while_rest, do_rest, for_rest, jump_rest, return_rest, stmts_at, block_rest, begun, stmt_pick, stmt_at}
+use Rattle.nx_cstmt.proofs.Signs.{Is, signed, not_signed}
+use Rattle.nx_cstmt.proofs.PartLaws.{Parts}
+use Rattle.nx_cstmt.proofs.Lists.{on_from, list_goes, list_ends}
 use Rattle.nx_cstmt.proofs.Laws.{NotElse, stmts_rounds, ones}
-use Rattle.nx_cstmt.proofs.Starts.{begins_expression, begins_statement, Starts, StartsStatement, starts, stmt_starts, not_same, part_not_same, no_part}
+use Rattle.nx_cstmt.proofs.Starts.{begins_expression, Starts, StartsStatement, starts, stmt_starts, not_same, part_not_same}
 
 -- An expression's reading reads each.
 abbrev pub CompletePart : ℕ → (Signed → Type 0) → Reading Signed Expr → Type 0
@@ -127,7 +127,7 @@ not_over (t ∷ us) h = not_signed t.sign sign.CloseBrace (not_same t.sign sign.
 while_not_else : (w : Signed) (rest : List Signed) → w.sign ≡ sign.While → Heads NotElse (w ∷ rest)
 while_not_else w rest e f = let same : sign.While ≡ sign.Else = sym e ∙ f in cc
 
-brace_not_else : (c : Signed) (rest : List Signed) → c.sign ≡ sign.CloseBrace → Heads NotElse (c ∷ rest)
+pub brace_not_else : (c : Signed) (rest : List Signed) → c.sign ≡ sign.CloseBrace → Heads NotElse (c ∷ rest)
 brace_not_else c rest e f = let same : sign.CloseBrace ≡ sign.Else = sym e ∙ f in cc
 
 module _ (part : ℕ → Signed → Pick Signed Expr) (F : Signed → Type 0) (margin : ℕ) (law : Parts part F margin) where
@@ -141,30 +141,30 @@ module _ (part : ℕ → Signed → Pick Signed Expr) (F : Signed → Type 0) (m
   unfolding stmt_pick
   expression_at d in_loop [] s rest a h e f = absurd h
   expression_at d in_loop (t ∷ us) s rest a h e f =
-      ap (λ x. picked x t us) (begun_expression (part d) (stmt_pick part d) (has_node d) in_loop t t.sign h) ∙ expression_on (part d) t s us rest a (law.passes d) e f
+      ap (λ x. picked x t us) (begun_expression (part d) (stmt_pick part d) (has_node d) in_loop t t.sign h) ∙ expression_on (part d) t s us rest a (law.lives.passes d) e f
 
   mutual
     -- A statement is read, where no "else" stands after an "if" at its end that has none.
     pub complete : {in_loop : Bool} {d : ℕ} {bare : Bool} {ts : List Signed} {a : Stmt} {rest : List Signed} → IsStmt in_loop d bare ts a rest → (bare ≡ true → Heads NotElse rest) → stmt_at part d in_loop ts ≡ Ok (a, rest)
     complete (Empty l d t r e) k = begins_at d l t r sign.Semicolon _ e refl
-    complete (Expression l d s ts r a p e) k = expression_at d l ts s r a (starts p.has) (law.complete d ts a (s ∷ r) p (law.semicolon s e)) e
+    complete (Expression l d s ts r a p e) k = expression_at d l ts s r a (starts p.has) (law.complete d ts a (s ∷ r) p (law.lives.semicolon s e)) e
     complete (Block l d t c ts r xs e x f) k =
         begins_at d l t ts sign.OpenBrace _ e
-        (block_on (stmt_pick part d l) t c ts r xs (complete_list x (brace_not_else c r f) ∙ list_ends (is_sign sign.CloseBrace) (stmt_pick part d l) (Is sign.CloseBrace) NotElse (stmts_rounds (stmt_pick part d l) (ones part F margin law d l)) xs (c ∷ r) (signed c.sign sign.CloseBrace f)) f)
+        (block_on (stmt_pick part d l) t c ts r xs (complete_list x (brace_not_else c r f) ∙ list_ends (is_sign sign.CloseBrace) (stmt_pick part d l) (Is sign.CloseBrace) NotElse (stmts_rounds (stmt_pick part d l) (ones part F law.lives d l)) xs (c ∷ r) (signed c.sign sign.CloseBrace f)) f)
     complete (If l d b t ts us r a x e p h) k =
-        begins_at d l t ts sign.If _ e (rw (deep h) (if_on _ (stmt_at part d l) t ts us r a x (test_on F (dispatch (part d)) law.close (law.complete d) p) (complete h (λ q. k refl)) (k refl)))
+        begins_at d l t ts sign.If _ e (rw (deep h) (if_on _ (stmt_at part d l) t ts us r a x (test_on F (dispatch (part d)) law.lives.close (law.complete d) p) (complete h (λ q. k refl)) (k refl)))
     complete (IfElse l d b t e ts us vs r a x y f p g h i) k =
-        begins_at d l t ts sign.If _ f (rw (deep g) (if_else_on _ (stmt_at part d l) t e ts us vs r a x y (test_on F (dispatch (part d)) law.close (law.complete d) p) (complete g (λ q. absurd cc)) h (complete i k)))
+        begins_at d l t ts sign.If _ f (rw (deep g) (if_else_on _ (stmt_at part d l) t e ts us vs r a x y (test_on F (dispatch (part d)) law.lives.close (law.complete d) p) (complete g (λ q. absurd cc)) h (complete i k)))
     complete (While l d b t ts us r a x e p h) k =
-        begins_at d l t ts sign.While _ e (rw (deep h) (while_on _ (stmt_at part d true) t ts us r a x (test_on F (dispatch (part d)) law.close (law.complete d) p) (complete h k)))
+        begins_at d l t ts sign.While _ e (rw (deep h) (while_on _ (stmt_at part d true) t ts us r a x (test_on F (dispatch (part d)) law.lives.close (law.complete d) p) (complete h k)))
     complete (Do l d b t w s ts us r x a e h f p g) k =
-        begins_at d l t ts sign.Do _ e (rw (deep h) (do_on _ (stmt_at part d true) t w s ts us r x a (complete h (λ q. while_not_else w us f)) f (test_on F (dispatch (part d)) law.close (law.complete d) p) g))
+        begins_at d l t ts sign.Do _ e (rw (deep h) (do_on _ (stmt_at part d true) t w s ts us r x a (complete h (λ q. while_not_else w us f)) f (test_on F (dispatch (part d)) law.lives.close (law.complete d) p) g))
     complete (For l d b t o ts us vs ws r a b2 c x e f p q s h) k =
         begins_at d l t (o ∷ ts) sign.For _ e (rw (deep h) (for_on (part d) (stmt_at part d true) t o ts us vs ws r a b2 c x f
-        (ended_on F (part d) (law.passes d) refl law.semicolon (law.complete d) p) (ended_on F (part d) (law.passes d) refl law.semicolon (law.complete d) q) (ended_on F (part d) (law.passes d) refl law.close (law.complete d) s) (complete h k)))
+        (ended_on F (part d) (law.lives.passes d) refl law.lives.semicolon (law.complete d) p) (ended_on F (part d) (law.lives.passes d) refl law.lives.semicolon (law.complete d) q) (ended_on F (part d) (law.lives.passes d) refl law.lives.close (law.complete d) s) (complete h k)))
     complete (Break d t s r e f) k = begins_at d true t (s ∷ r) sign.Break _ e (jump_on t s kind.Break r f)
     complete (Continue d t s r e f) k = begins_at d true t (s ∷ r) sign.Continue _ e (jump_on t s kind.Continue r f)
-    complete (Return l d t ts r a e p) k = begins_at d l t ts sign.Return _ e (return_on (part d) t ts r a (ended_on F (part d) (law.passes d) refl law.semicolon (law.complete d) p))
+    complete (Return l d t ts r a e p) k = begins_at d l t ts sign.Return _ e (return_on (part d) t ts r a (ended_on F (part d) (law.lives.passes d) refl law.lives.semicolon (law.complete d) p))
 
     -- So are statements.
     pub complete_list : {in_loop : Bool} {d : ℕ} {ts : List Signed} {xs : List Stmt} {rest : List Signed} → IsStmts in_loop d ts xs rest → Heads NotElse rest →
@@ -172,5 +172,5 @@ module _ (part : ℕ → Signed → Pick Signed Expr) (F : Signed → Type 0) (m
     complete_list (Done l d ts) k = refl
     complete_list (More l d b ts us rest xs x h g) k =
         complete_list h (not_else us (stmt_starts g))
-        ∙ list_goes (is_sign sign.CloseBrace) (stmt_pick part d l) (Is sign.CloseBrace) NotElse (stmts_rounds (stmt_pick part d l) (ones part F margin law d l)) (ones part F margin law d l).passes xs us (not_over us (stmt_starts g))
+        ∙ list_goes (is_sign sign.CloseBrace) (stmt_pick part d l) (Is sign.CloseBrace) NotElse (stmts_rounds (stmt_pick part d l) (ones part F law.lives d l)) (ones part F law.lives d l).passes xs us (not_over us (stmt_starts g))
         ∙ ap (on_from (is_sign sign.CloseBrace) (stmt_pick part d l) xs) (complete g (λ e. k))

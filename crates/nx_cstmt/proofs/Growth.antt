@@ -1,12 +1,10 @@
 -- Statements within a limit against statements within a wider one.
-use Rattle.std.proofs.Common.{◌≡◌, ℕ, zero, suc, ◌+◌, ◌≤◌, Bool, true, false, List, [], ◌∷◌, refl, sym, ap, ◌∙◌, arith, subst}
+use Rattle.std.proofs.Common.{ℕ, zero, suc, ◌+◌, ◌≤◌, Bool, true, false, refl, arith}
 use Rattle.std.specs.Prelude.{Option, Some, None, if◌then◌else◌}
-use Rattle.nx_grammar.specs.declared.kind.Kind.{Kind}
-use Rattle.nx_grammar.specs.declared.kind.Kind.TheVariants.{Syntax, Limit}
-use Rattle.nx_grammar.specs.Reading.{Reading, Pick, Refuse, Pass, Take, dispatch, seq, done, then_pick}
-use Rattle.nx_grammar.specs.Lawful.{Any, Law}
-use Rattle.nx_grammar.specs.Growing.{Grows, Shortens, Wider, PickGrown}
-use Rattle.nx_grammar.proofs.Growth.{grows_dispatch, wider_seq, wider_done, shortens, shortens_seq}
+use Rattle.nx_grammar.specs.Reading.{Reading, Pick, Pass, Take, dispatch, seq, done, then_pick}
+use Rattle.nx_grammar.specs.Lawful.{Any}
+use Rattle.nx_grammar.specs.Growing.{Shortens, Wider, PickGrown}
+use Rattle.nx_grammar.proofs.Growth.{grows_dispatch, wider_seq, wider_done, shortens}
 use Rattle.nx_grammar.proofs.Choices.{law_dispatch}
 use Rattle.nx_grammar.proofs.Thens.{then_grown}
 use Rattle.nx_ctree.specs.declared.sign.Sign.{Sign}
@@ -17,11 +15,13 @@ use Rattle.nx_ctree.specs.declared.statement.Stmt.{Stmt}
 use Rattle.nx_ctree.specs.declared.statement.StmtKind.{StmtKind}
 use Rattle.nx_ctree.specs.declared.statement.StmtKind.TheVariants as kind
 use Rattle.nx_ctree.specs.Statements.{stmt}
-use Rattle.nx_cstmt.specs.Reading.{is_sign, sign_at, has_node, test_at, ended_rest, ended_pick, expression_rest, else_pick, if_rest, while_rest, do_rest, for_rest, jump_rest, return_rest, stmts_at, block_rest, begun, barred, stmt_pick, stmt_at}
+use Rattle.nx_cexpr.specs.Signs.{is_sign}
+use Rattle.nx_cexpr.specs.Reading.{has_node}
+use Rattle.nx_cstmt.specs.Reading.{sign_at, test_at, ended_rest, ended_pick, expression_rest, else_pick, if_rest, while_rest, do_rest, for_rest, jump_rest, return_rest, stmts_at, block_rest, begun, barred, stmt_pick}
 use Rattle.nx_cstmt.proofs.Signs.{Is, sign_wider}
-use Rattle.nx_cstmt.proofs.Parts.{Parts}
+use Rattle.nx_cstmt.proofs.PartLaws.{Parts}
 use Rattle.nx_cstmt.proofs.Lists.{Ones, list_wider}
-use Rattle.nx_cstmt.proofs.Laws.{NotElse, BodyLaw, TestLaw, Begins, ended_law, else_law, if_law, while_law, do_law, for_law, jump_law, return_law, expression_law, stmts_rounds, block_law, begins, tests, ones, stmt_law}
+use Rattle.nx_cstmt.proofs.Laws.{NotElse, BodyLaw, TestLaw, Begins, ended_law, else_law, if_law, while_law, do_law, for_law, return_law, stmts_rounds, block_law, begins, tests, ones, stmt_law}
 
 pub test_wider : (p q : Reading Signed Expr) → Wider p q → Wider (test_at p) (test_at q)
 unfolding test_at
@@ -161,17 +161,17 @@ module _ (part two : Signed → Pick Signed Expr) (wide : Bool → Signed → Pi
 module _ (part : ℕ → Signed → Pick Signed Expr) (F : Signed → Type 0) (margin : ℕ) (law : Parts part F margin) where
   whole_short : (e : ℕ) → Shortens (dispatch (part (suc e)))
   whole_short e = shortens (dispatch (part (suc e))) F (Is sign.Number)
-      (law_dispatch (part (suc e)) F (Is sign.Number) (record { takes = law.takes (suc e); passes = λ t a x. absurd (law.passes (suc e) t a x) }) (law.opens e))
+      (law_dispatch (part (suc e)) F (Is sign.Number) (record { takes = law.lives.takes (suc e); passes = λ t a x. absurd (law.lives.passes (suc e) t a x) }) (law.lives.opens e))
 
   wide_at : (e : ℕ) → Wide (part (suc e)) (stmt_pick part (suc e)) F
   wide_at e = record {
-    semicolon = law.semicolon;
-    close = law.close;
-    begins2 = begins part F margin law (suc e);
+    semicolon = law.lives.semicolon;
+    close = law.lives.close;
+    begins2 = begins part F law.lives (suc e);
     whole = whole_short e;
-    test = tests part F margin law (suc e) refl;
-    ones2 = λ c. ones part F margin law (suc e) c;
-    law = λ c. stmt_law part F margin law (suc e) c refl;
+    test = tests part F law.lives (suc e) refl;
+    ones2 = λ c. ones part F law.lives (suc e) c;
+    law = λ c. stmt_law part F law.lives (suc e) c refl;
   }
 
   -- A statement within a limit that is wider by the expressions' margin and two.
@@ -184,5 +184,5 @@ module _ (part : ℕ → Signed → Pick Signed Expr) (F : Signed → Type 0) (m
   stmt_grown (suc d) (suc zero) h b t = absurd (omega arith)
   stmt_grown (suc d) (suc (suc e)) h b t =
       begun_grown (part d) (part (suc e)) (stmt_pick part (suc e)) F (λ u. law.grown d (suc e) (omega arith) u) (wide_at e)
-      (stmt_pick part d) (record { grown = λ c u. stmt_grown d (suc e) (omega arith) c u; ones1 = λ c. ones part F margin law d c })
+      (stmt_pick part d) (record { grown = λ c u. stmt_grown d (suc e) (omega arith) c u; ones1 = λ c. ones part F law.lives d c })
       (has_node d) b t t.sign

@@ -1,5 +1,5 @@
 -- No statement takes the last token, so each fault has a token.
-use Rattle.std.proofs.Common.{◌≡◌, ℕ, zero, suc, Bool, true, false, List, [], ◌∷◌, refl, sym, ap, ◌∙◌, subst}
+use Rattle.std.proofs.Common.{◌≡◌, ℕ, zero, suc, Bool, true, false, refl, sym, ◌∙◌, subst}
 use Rattle.std.specs.Prelude.{Option, Some, None, if◌then◌else◌}
 use denote.Enum.Bare.{sameb}
 use Rattle.nx_ctree.specs.contracts.sign.Sign.{the_type}
@@ -16,10 +16,12 @@ use Rattle.nx_ctree.specs.declared.statement.Stmt.{Stmt}
 use Rattle.nx_ctree.specs.declared.statement.StmtKind.{StmtKind}
 use Rattle.nx_ctree.specs.declared.statement.StmtKind.TheVariants as kind
 use Rattle.nx_ctree.specs.Statements.{stmt}
-use Rattle.nx_cstmt.specs.Reading.{is_sign, sign_at, has_node, test_at, ended_rest, ended_pick, expression_rest, else_pick, if_rest, while_rest, do_rest, for_rest, jump_rest, return_rest, stmts_at, block_rest, begun, barred, stmt_pick, stmt_at}
+use Rattle.nx_cexpr.specs.Signs.{is_sign}
+use Rattle.nx_cexpr.specs.Reading.{has_node}
+use Rattle.nx_cstmt.specs.Reading.{sign_at, test_at, ended_rest, ended_pick, expression_rest, else_pick, if_rest, while_rest, do_rest, for_rest, jump_rest, return_rest, stmts_at, block_rest, begun, barred, stmt_pick}
 use Rattle.nx_cstmt.proofs.Signs.{Is, sign_is, sign_spares}
-use Rattle.nx_cstmt.proofs.Parts.{Parts}
-use Rattle.nx_cstmt.proofs.Lists.{Ones, then_spares, list_spares}
+use Rattle.nx_cstmt.proofs.PartLaws.{Parts}
+use Rattle.nx_cstmt.proofs.Lists.{then_spares, list_spares}
 use Rattle.nx_cstmt.proofs.Laws.{NotElse, stmts_rounds, ones}
 
 -- The token that ends a file.
@@ -92,7 +94,7 @@ took_if false k m t p q e ne s h = absurd cc
 module _ (part : ℕ → Signed → Pick Signed Expr) (F : Signed → Type 0) (margin : ℕ) (law : Parts part F margin) where
   -- Statements up to a closing brace.
   pub stmts_last : (d : ℕ) (b : Bool) → ((t : Signed) → SparesPick E t (stmt_pick part d b t)) → Spares E (stmts_at (stmt_pick part d b))
-  stmts_last d b s = list_spares (is_sign sign.CloseBrace) E (stmt_pick part d b) (Is sign.CloseBrace) NotElse (stmts_rounds (stmt_pick part d b) (ones part F margin law d b)) s
+  stmts_last d b s = list_spares (is_sign sign.CloseBrace) E (stmt_pick part d b) (Is sign.CloseBrace) NotElse (stmts_rounds (stmt_pick part d b) (ones part F law.lives d b)) s
 
   block_last : (d : ℕ) (b : Bool) (t : Signed) → ((u : Signed) → SparesPick E u (stmt_pick part d b u)) → Spares E (block_rest (stmt_pick part d b) t)
   unfolding block_rest

@@ -1,14 +1,12 @@
 -- The laws of reading statements.
-use Rattle.std.proofs.Common.{◌≡◌, ℕ, zero, suc, Bool, true, false, List, [], ◌∷◌, ◌++◌, refl, sym, ap, ◌∙◌, subst}
+use Rattle.std.proofs.Common.{◌≡◌, ℕ, zero, suc, Bool, true, false, List, [], ◌∷◌, refl, sym, ap, ◌∙◌, subst}
 use Rattle.std.specs.Prelude.{Ok, Option, Some, None, if◌then◌else◌}
-use denote.Enum.Bare.{sameb}
-use Rattle.nx_ctree.specs.contracts.sign.Sign.{the_type}
 use Rattle.nx_grammar.specs.declared.kind.Kind.{Kind}
 use Rattle.nx_grammar.specs.declared.kind.Kind.TheVariants.{Syntax, Limit}
-use Rattle.nx_grammar.specs.Reading.{Reading, Pick, Refuse, Pass, Take, dispatch, seq, done, then_pick, loop}
-use Rattle.nx_grammar.specs.Lawful.{Heads, Any, Lives, Opens, Law, Picks, Rounds}
+use Rattle.nx_grammar.specs.Reading.{Reading, Pick, Refuse, Pass, Take, dispatch, seq, done, then_pick}
+use Rattle.nx_grammar.specs.Lawful.{Heads, Any, Lives, Opens, Law, Rounds}
 use Rattle.nx_grammar.proofs.Sequences.{law_seq, law_done}
-use Rattle.nx_grammar.proofs.Choices.{law_dispatch, law_fit, lives_fit, taken_by}
+use Rattle.nx_grammar.proofs.Choices.{law_dispatch, lives_fit, taken_by}
 use Rattle.nx_grammar.proofs.LoopLaws.{law_loop}
 use Rattle.nx_grammar.proofs.Thens.{then_takes, then_passes}
 use Rattle.nx_ctree.specs.declared.sign.Sign.{Sign}
@@ -20,9 +18,11 @@ use Rattle.nx_ctree.specs.declared.statement.StmtKind.{StmtKind}
 use Rattle.nx_ctree.specs.declared.statement.StmtKind.TheVariants as kind
 use Rattle.nx_ctree.specs.Statements.{stmt}
 use Rattle.nx_cstmt.specs.Lists.{more_pick}
-use Rattle.nx_cstmt.specs.Reading.{is_sign, sign_at, has_node, test_at, ended_rest, ended_pick, expression_rest, else_pick, if_rest, while_rest, do_rest, for_rest, jump_rest, return_rest, stmts_at, block_rest, begun, barred, stmt_pick, stmt_at}
+use Rattle.nx_cexpr.specs.Signs.{is_sign}
+use Rattle.nx_cexpr.specs.Reading.{has_node}
+use Rattle.nx_cstmt.specs.Reading.{sign_at, test_at, ended_rest, ended_pick, expression_rest, else_pick, if_rest, while_rest, do_rest, for_rest, jump_rest, return_rest, stmts_at, block_rest, begun, barred, stmt_pick, stmt_at}
 use Rattle.nx_cstmt.proofs.Signs.{Is, bare, signed, not_signed, sign_law}
-use Rattle.nx_cstmt.proofs.Parts.{Parts}
+use Rattle.nx_cstmt.proofs.PartLaws.{PartLives}
 use Rattle.nx_cstmt.proofs.Lists.{Ones, more_rounds}
 
 -- A token that isn't "else".
@@ -191,7 +191,7 @@ passed_if : (b : Bool) (k : Kind) (p : Reading Signed Stmt) (a : Stmt) → (let 
 passed_if true k p a e = cc
 passed_if false k p a e = cc
 
-module _ (part : ℕ → Signed → Pick Signed Expr) (F : Signed → Type 0) (margin : ℕ) (law : Parts part F margin) where
+module _ (part : ℕ → Signed → Pick Signed Expr) (F : Signed → Type 0) (law : PartLives part F) where
   -- What begins an expression within a limit.
   pub begins : (d : ℕ) → Begins (part d) F
   begins d = record { takes = law.takes d; passes = law.passes d }

@@ -1,5 +1,5 @@
 pub mod Signs
-pub mod Parts
+pub mod PartLaws
 pub mod Lists
 pub mod Laws
 pub mod Starts
@@ -7,3 +7,5 @@ pub mod Sound
 pub mod Complete
 pub mod Growth
 pub mod Last
+pub mod Expressions
+pub mod Steps

@@ -1,11 +1,9 @@
 -- The laws of lists of parts.
 use Rattle.std.proofs.Common.{◌≡◌, Bool, true, false, List, [], ◌∷◌, ◌++◌, refl, sym, ap, ◌∙◌, subst}
 use Rattle.std.specs.Prelude.{Ok, Err, if◌then◌else◌}
-use Rattle.nx_grammar.specs.declared.kind.Kind.{Kind}
-use Rattle.nx_grammar.specs.Reading.{Out, Reading, Pick, Refuse, Pass, Take, picked, dispatch, bind, seq, done, then_pick, round, turn, loop}
-use Rattle.nx_grammar.specs.Lawful.{Any, Heads, Lives, Law, Rounds}
-use Rattle.nx_grammar.specs.Growing.{Grows, Shortens, Wider, PickGrown}
-use Rattle.nx_grammar.specs.Faults.{EndsIn}
+use Rattle.nx_grammar.specs.Reading.{Out, Reading, Pick, Refuse, Pass, Take, picked, dispatch, bind, seq, then_pick, round, turn, loop}
+use Rattle.nx_grammar.specs.Lawful.{Any, Heads, Lives, Rounds}
+use Rattle.nx_grammar.specs.Growing.{Wider, PickGrown}
 use Rattle.nx_grammar.specs.Sparing.{Spares, SparesPick}
 use Rattle.nx_grammar.proofs.Results.{bound, ok_same}
 use Rattle.nx_grammar.proofs.Sequences.{law_done}
@@ -15,7 +13,7 @@ use Rattle.nx_grammar.proofs.Loops.{loop_turn, loop_keeps, shorter}
 use Rattle.nx_grammar.proofs.LoopLaws.{law_loop}
 use Rattle.nx_grammar.proofs.LoopGrowth.{grows_loop}
 use Rattle.nx_grammar.proofs.Spares.{spares_seq, spares_done, spares_loop}
-use Rattle.nx_cstmt.specs.Lists.{add, more_pick}
+use Rattle.nx_cstmt.specs.Lists.{add, more_pick, is_over}
 
 -- What a pick takes and more after it takes no last token.
 pub then_spares : {T A B : Type 0} (E : T → Type 0) (t : T) (x : Pick T A) (next : A → Reading T B) → SparesPick E t x → ((a : A) → Spares E (next a)) → SparesPick E t (then_pick x next)
@@ -54,11 +52,6 @@ then_on {T = T} {A = A} {B = B} pick next law (t ∷ us) = by_pick (pick t) (law
 pub record Ones {T A : Type 0} (one : T → Pick T A) (H : T → Type 0) : Type 0 where
   pub takes : (t : T) (read : Reading T A) → one t ≡ Take read → Lives read H Any
   pub passes : (t : T) (a : A) → one t ≡ Pass a → ⊥
-
--- Whether a token that ends the list stands first.
-abbrev pub is_over : {T : Type 0} → (T → Bool) → List T → Bool
-is_over ends [] = false
-is_over ends (t ∷ ts) = ends t
 
 module _ {T A : Type 0} (ends : T → Bool) where
   -- What a round takes is lawful.
@@ -163,3 +156,11 @@ module _ {T A : Type 0} (ends : T → Bool) where
     -- Where an end does, it is over.
     pub list_ends : (xs : List A) (ts : List T) → is_over ends ts ≡ true → loop (more_pick ends one) xs ts ≡ Ok (xs, ts)
     list_ends xs ts h = loop_turn (more_pick ends one) (shorter (more_pick ends one) F H law) xs ts ∙ ends_by xs ts h
+
+    -- The same as one step and the list.
+    step_on : (xs : List A) (o : Out T A) → on_from one xs o ≡ bind (bind o (add xs)) (loop (more_pick ends one))
+    step_on xs (Ok x) = refl
+    step_on xs (Err e) = refl
+
+    pub list_step : ((t : T) (a : A) → one t ≡ Pass a → ⊥) → (xs : List A) (ts : List T) → is_over ends ts ≡ false → loop (more_pick ends one) xs ts ≡ bind (seq (dispatch one) (add xs) ts) (loop (more_pick ends one))
+    list_step passes xs ts h = list_goes passes xs ts h ∙ step_on xs (dispatch one ts)

@@ -1,9 +1,8 @@
 -- The laws of one token of a sign.
-use Rattle.std.proofs.Common.{◌≡◌, Bool, true, false, List, [], ◌∷◌, refl, sym, ap, ◌∙◌, subst}
+use Rattle.std.proofs.Common.{◌≡◌, true, false, List, [], ◌∷◌, refl, sym, ◌∙◌}
 use Rattle.std.specs.Prelude.{Ok}
 use denote.Enum.Bare.{sameb, same_true, true_same, false_same, same_false}
 use Rattle.nx_ctree.specs.contracts.sign.Sign.{the_type}
-use Rattle.nx_grammar.specs.Reading.{expect}
 use Rattle.nx_grammar.specs.Lawful.{Any, Law}
 use Rattle.nx_grammar.specs.Growing.{Wider}
 use Rattle.nx_grammar.specs.Sparing.{Spares}
@@ -14,7 +13,8 @@ use Rattle.nx_grammar.proofs.Spares.{spares_expect}
 use Rattle.nx_ctree.specs.declared.sign.Sign.{Sign}
 use Rattle.nx_ctree.specs.declared.sign.Sign.TheVariants as sign
 use Rattle.nx_ctree.specs.declared.sign.Signed.{Signed}
-use Rattle.nx_cstmt.specs.Reading.{is_sign, sign_at}
+use Rattle.nx_cexpr.specs.Signs.{is_sign}
+use Rattle.nx_cstmt.specs.Reading.{sign_at}
 
 -- A token has this sign.
 abbrev pub Is : Sign → Signed → Type 0

@@ -1,5 +1,5 @@
 -- What is read has its tree by the grammar.
-use Rattle.std.proofs.Common.{◌≡◌, ℕ, zero, suc, Bool, true, false, List, [], ◌∷◌, ◌++◌, refl, sym, ap, ◌∙◌, subst}
+use Rattle.std.proofs.Common.{◌≡◌, ℕ, zero, suc, Bool, true, false, List, [], ◌∷◌, refl, sym, ap, subst}
 use Rattle.std.specs.Prelude.{Ok, Option, Some, None, if◌then◌else◌}
 use denote.Enum.Bare.{sameb}
 use Rattle.nx_ctree.specs.contracts.sign.Sign.{the_type}
@@ -16,9 +16,11 @@ use Rattle.nx_ctree.specs.declared.statement.Stmt.{Stmt}
 use Rattle.nx_ctree.specs.declared.statement.StmtKind.{StmtKind}
 use Rattle.nx_ctree.specs.declared.statement.StmtKind.TheVariants as kind
 use Rattle.nx_ctree.specs.Statements.{stmt, IsPart, IsTest, Test, IsEnded, Absent, Given, IsStmt, IsStmts, Empty, Expression, Block, If, IfElse, While, Do, For, Break, Continue, Return, Done, More}
-use Rattle.nx_cstmt.specs.Reading.{is_sign, sign_at, has_node, test_at, ended_rest, ended_pick, expression_rest, else_pick, if_rest, while_rest, do_rest, for_rest, jump_rest, return_rest, stmts_at, block_rest, begun, barred, stmt_pick, stmt_at}
+use Rattle.nx_cexpr.specs.Signs.{is_sign}
+use Rattle.nx_cexpr.specs.Reading.{has_node}
+use Rattle.nx_cstmt.specs.Reading.{sign_at, test_at, ended_rest, ended_pick, expression_rest, else_pick, if_rest, while_rest, do_rest, for_rest, jump_rest, return_rest, stmts_at, block_rest, begun, barred, stmt_pick, stmt_at}
 use Rattle.nx_cstmt.proofs.Signs.{Is, sign_is, sign_is_not, found_sign}
-use Rattle.nx_cstmt.proofs.Parts.{Parts}
+use Rattle.nx_cstmt.proofs.PartLaws.{Parts}
 use Rattle.nx_cstmt.proofs.Lists.{then_read, list_keeps}
 use Rattle.nx_cstmt.proofs.Laws.{NotElse, stmts_rounds, ones}
 use Rattle.nx_cstmt.proofs.Starts.{no_part}
@@ -120,7 +122,7 @@ found_for in_loop d part body t parted sound ts a rest m h =
     let o = ok_same (stmt t (kind.For x.0 y.0 z.0 w.0)) a w.1 rest w.3 in
     open_as in_loop (suc d) fw.bare (t ∷ p.0 ∷ p.1) (t ∷ ts) (stmt t (kind.For x.0 y.0 z.0 w.0)) a w.1 rest (ap (λ us. t ∷ us) fp.is) o.0 o.1 fw.after
     (For in_loop d fw.bare t p.0 p.1 x.1 y.1 z.1 w.1 x.0 y.0 z.0 w.0 m fp.sign
-        (found_ended d part sign.Semicolon parted p.1 x.0 x.1 x.2) (found_ended d part sign.Semicolon parted x.1 y.0 y.1 y.2) (found_ended d part sign.CloseParen parted y.1 z.0 z.1 z.2) fw.has)
+    (found_ended d part sign.Semicolon parted p.1 x.0 x.1 x.2) (found_ended d part sign.Semicolon parted x.1 y.0 y.1 y.2) (found_ended d part sign.CloseParen parted y.1 z.0 z.1 z.2) fw.has)
 
 -- After "break" and "continue" a semicolon stood.
 found_jump : (t : Signed) (k : StmtKind) (ts : List Signed) (a : Stmt) (rest : List Signed) → jump_rest t k ts ≡ Ok (a, rest) → (s : Signed) × (mid : List Signed) × (ts ≡ s ∷ mid) × (s.sign ≡ sign.Semicolon) × (stmt t k ≡ a) × (mid ≡ rest)
@@ -194,7 +196,7 @@ module _ (part : ℕ → Signed → Pick Signed Expr) (F : Signed → Type 0) (m
   pub found_stmts : (in_loop : Bool) (d : ℕ) → Sound in_loop d (stmt_at part d in_loop) → (ts : List Signed) (ys : List Stmt) (rest : List Signed) →
       stmts_at (stmt_pick part d in_loop) ts ≡ Ok (ys, rest) → IsStmts in_loop d ts ys rest
   found_stmts in_loop d sound ts ys rest h =
-      (list_keeps (is_sign sign.CloseBrace) (stmt_pick part d in_loop) (Is sign.CloseBrace) NotElse (stmts_rounds (stmt_pick part d in_loop) (ones part F margin law d in_loop)) (λ xs us. IsStmts in_loop d ts xs us)
+      (list_keeps (is_sign sign.CloseBrace) (stmt_pick part d in_loop) (Is sign.CloseBrace) NotElse (stmts_rounds (stmt_pick part d in_loop) (ones part F law.lives d in_loop)) (λ xs us. IsStmts in_loop d ts xs us)
       (λ xs t us a mid g p. let f = sound (t ∷ us) a mid g in More in_loop d f.bare ts (t ∷ us) mid xs a p f.has)
       ts ys rest h (Done in_loop d ts)).0
 

@@ -1,6 +1,6 @@
 -- With which tokens expressions and statements begin.
-use Rattle.std.proofs.Common.{◌≡◌, ℕ, zero, suc, ◌<◌, Bool, true, false, List, [], ◌∷◌, refl, sym, ap, ◌∙◌, arith}
-use Rattle.std.specs.Prelude.{Option, Some, None}
+use Rattle.std.proofs.Common.{◌≡◌, ℕ, ◌<◌, Bool, true, false, List, [], ◌∷◌, refl, ap, ◌∙◌, arith}
+use Rattle.std.specs.Prelude.{Some}
 use Rattle.nx_grammar.specs.Lawful.{Heads}
 use Rattle.nx_ctree.specs.declared.sign.Sign.{Sign}
 use Rattle.nx_ctree.specs.declared.sign.Sign.TheVariants as sign

@@ -1,7 +1,5 @@
 -- How statements are read.
-use Rattle.std.specs.Prelude.{ℕ, zero, suc, Bool, true, false, List, [], ◌∷◌, Option, None, Some, if◌then◌else◌}
-use denote.Enum.Bare.{sameb}
-use Rattle.nx_ctree.specs.contracts.sign.Sign.{the_type}
+use Rattle.std.specs.Prelude.{ℕ, zero, suc, Bool, true, List, [], Option, None, Some, if◌then◌else◌}
 use Rattle.nx_grammar.specs.declared.kind.Kind.TheVariants.{Syntax, Limit}
 use Rattle.nx_grammar.specs.Reading.{Reading, Pick, Refuse, Pass, Take, dispatch, seq, done, expect, then_pick, loop}
 use Rattle.nx_ctree.specs.declared.sign.Sign.{Sign}
@@ -12,20 +10,17 @@ use Rattle.nx_ctree.specs.declared.statement.Stmt.{Stmt}
 use Rattle.nx_ctree.specs.declared.statement.StmtKind.{StmtKind}
 use Rattle.nx_ctree.specs.declared.statement.StmtKind.TheVariants as kind
 use Rattle.nx_ctree.specs.Statements.{stmt}
+use Rattle.nx_cexpr.specs.Signs.{is_sign}
+use Rattle.nx_cexpr.specs.Reading.{expr_pick, has_node}
 use Rattle.nx_cstmt.specs.Lists.{more_pick}
-
--- Whether a token has this sign.
-abbrev pub is_sign : Sign → Signed → Bool
-is_sign s t = sameb the_type t.sign s
 
 -- A token of this sign.
 abbrev pub sign_at : Sign → Reading Signed Signed
 sign_at s = expect (is_sign s)
 
--- Whether there is a node left.
-abbrev pub has_node : ℕ → Bool
-has_node zero = false
-has_node (suc d) = true
+-- What begins an expression of at most so many nodes, without its height.
+abbrev pub part_pick : ℕ → Signed → Pick Signed Expr
+part_pick d t = then_pick (expr_pick d t) (λ x. done x.expr)
 
 -- An expression in parentheses.
 unfoldable pub test_at : Reading Signed Expr → Reading Signed Expr

@@ -1,0 +1,9 @@
+pub mod Commas
+pub mod Laws
+pub mod FileLaws
+pub mod Sound
+pub mod Complete
+pub mod Last
+pub mod Growth
+pub mod Steps
+pub mod Splits
