@@ -1,6 +1,6 @@
 -- What an access of the entered view reads.
-use Rattle.std.proofs.Common.{◌≡◌, ℕ, ◌+◌, ◌-◌, ◌*◌, ◌/◌, ◌%◌, ◌<◌, ◌≤◌, Bool, true, false, Option, Some, None, List, [], length, map, refl, sym, ap, ◌∙◌, subst, arith, ⊎_elim, zero-add}
-use Rattle.std.specs.Prelude.{slice_index_or, Result, Ok, Err, ◌&&◌}
+use Rattle.std.proofs.Common.{◌≡◌, ℕ, ◌+◌, ◌-◌, ◌*◌, ◌/◌, ◌%◌, ◌<◌, ◌≤◌, Bool, Option, Some, None, List, [], length, map, refl, sym, ap, ◌∙◌, subst, arith, ⊎_elim, zero-add}
+use Rattle.std.specs.Prelude.{slice_index_or, Ok, Err}
 use Rattle.nx_base.specs.ByteLists.{get_bytes}
 use Rattle.nx_base.specs.declared.access.Access.{Access}
 use Rattle.nx_base.specs.declared.access.Access.TheVariants.{Fetch, Load, Store}
@@ -10,12 +10,12 @@ use Rattle.nx_sv32.specs.declared.sv32.PageFault.{PageFault}
 use Rattle.nx_tables.specs.Maps.{satp_of, lets}
 use Rattle.nx_tables.specs.Roles.{Role}
 use Rattle.nx_tables.specs.Seen.{seen}
-use Rattle.nx_space.specs.World.{Part, World, IsEntered, has_view, group_of, group_in, seen_by}
-use Rattle.nx_space.specs.Places.{Place, place_in}
+use Rattle.nx_space.specs.World.{Part, IsEntered, group_in, seen_by}
+use Rattle.nx_space.specs.Places.{place_in}
 use Rattle.nx_space.proofs.Windows.{bytes_at}
-use Rattle.nx_paged.specs.Tenants.{Tenant, has_tenant, root_of}
+use Rattle.nx_paged.specs.Tenants.{root_of}
 use Rattle.nx_paged.specs.Spans.{Span, part_of, span_bytes, spans_of}
-use Rattle.nx_paged.specs.Paging.{Paging, paged_plan, paged_group, paged_world, IsLive, IsPaged}
+use Rattle.nx_paged.specs.Paging.{Paging, paged_plan, paged_world, IsLive, IsPaged}
 use Rattle.nx_paged.specs.Finding.{tenant_view, Found, find_tenant}
 use Rattle.nx_paged.proofs.Hits.{Resolves, resolved, refused, bytes_seen}
 

@@ -1,17 +1,16 @@
 -- One table more, and one page more.
-use Rattle.std.proofs.Common.{◌≡◌, ◌≢◌, ℕ, zero, suc, ◌+◌, ◌-◌, ◌*◌, ◌/◌, ◌%◌, ◌<◌, ◌≤◌, ◌==◌, Bool, true, false, ◌||◌, Option, Some, None, List, [], ◌∷◌, ◌++◌, length, map, take, drop, get_or, refl, sym, ap, ◌∙◌, subst, arith, ⊎_elim, inl, inr}
+use Rattle.std.proofs.Common.{◌≡◌, ◌≢◌, ℕ, ◌+◌, ◌-◌, ◌*◌, ◌/◌, ◌%◌, ◌<◌, ◌≤◌, ◌==◌, Bool, true, false, ◌||◌, Some, None, List, [], ◌∷◌, ◌++◌, length, take, drop, get_or, refl, sym, ap, ◌∙◌, subst, arith, ⊎_elim}
 use Rattle.std.specs.Prelude.{if◌then◌else◌, slice_index}
 use Rattle.std.specs.List.{list_any}
 use Rattle.std.specs.Option.{is_some}
-use Rattle.std.proofs.lemmas.Bool.{cases_eq, cases_lt}
-use Rattle.std.proofs.lemmas.Bool.Decides.{nat_tests}
+use Rattle.std.proofs.lemmas.Bool.{cases_eq}
 use Rattle.nx_base.specs.ByteLists.{put_bytes, to_le}
 use Rattle.nx_base.proofs.Puts.{length-put_bytes, length-to_le}
 use Rattle.nx_sv32.specs.Walk.{ram_start, entry_at}
-use Rattle.nx_tables.specs.Maps.{Page, Maps, pointer_to, leaf_of, table_by}
-use Rattle.nx_tables.specs.Roles.{Role, Free, Root, Table, Leaf, is_table, is_of, with_role, with_table, with_page, IsZeroed, SameRoles, Stands}
+use Rattle.nx_tables.specs.Maps.{Page, pointer_to, leaf_of, table_by}
+use Rattle.nx_tables.specs.Roles.{Role, Free, Root, Table, Leaf, is_table, is_of, with_role, with_table, with_page, IsZeroed, SameRoles}
 use Rattle.nx_tables.proofs.Walked.{root_tells}
-use Rattle.nx_tables.proofs.Kept.{same_number, other_number, root_table, table_table, table_is_of, leaf_is_of, free_is_none, given_role, new_role, byte_elsewhere}
+use Rattle.nx_tables.proofs.Kept.{same_number, other_number, root_table, table_table, table_is_of, free_is_none, given_role, new_role, byte_elsewhere}
 use Rattle.nx_tables.proofs.EntriesPut.{some_page}
 use Rattle.nx_tables.proofs.Steps.{table_step, page_step}
 use Rattle.nx_space.specs.Starts.{different}

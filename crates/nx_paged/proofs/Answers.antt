@@ -1,5 +1,5 @@
 -- What the code's walk says of the world, where it is only known that some tables stand.
-use Rattle.std.proofs.Common.{◌≡◌, ℕ, ◌+◌, ◌-◌, ◌<◌, ◌≤◌, Bool, true, false, ◌==◌, ◌^◌, ◌||◌, ◌&&◌, Option, Some, None, List, length, refl, sym, ap, ◌∙◌}
+use Rattle.std.proofs.Common.{◌≡◌, ℕ, ◌+◌, ◌-◌, Bool, true, false, ◌==◌, ◌^◌, ◌||◌, ◌&&◌, Some, None, List, sym, ap, ◌∙◌}
 use Rattle.std.specs.Prelude.{Result, Ok, Err, nat_le}
 use Rattle.nx_space.proofs.Windows.{bytes_at}
 use Rattle.std.specs.Option.{is_some}
@@ -15,14 +15,14 @@ use Rattle.nx_sv32.specs.declared.sv32.PageFault.{PageFault}
 use Rattle.nx_tables.specs.Maps.{satp_of, lets}
 use Rattle.nx_space.specs.World.{Part, World, IsEntered, view_in, seen_by}
 use Rattle.nx_space.specs.Lawful.{OnlyEntered}
-use Rattle.nx_space.proofs.Stores.{Stored, loaded, fetched}
+use Rattle.nx_space.proofs.Stores.{loaded, fetched}
 use Rattle.nx_paged.specs.Tenants.{root_of}
 use Rattle.nx_paged.specs.Spans.{Span, part_of}
 use Rattle.nx_paged.specs.Walks.{all_walked}
 use Rattle.nx_paged.specs.Paging.{Paging, paged_world, IsPlaced, IsPaged}
 use Rattle.nx_paged.specs.Lawful.{paged_lawful}
-use Rattle.nx_paged.proofs.Accesses.{InPage, IsInside, runs_fetch, reads_load, writes_store, walked, entered_refused, bytes_found, is_inside, walk_is, walk_is_none}
-use Rattle.nx_paged.proofs.Saves.{with_ram, Saved, saved, not_saved}
+use Rattle.nx_paged.proofs.Accesses.{InPage, IsInside, runs_fetch, reads_load, walked, entered_refused, bytes_found, is_inside, walk_is, walk_is_none}
+use Rattle.nx_paged.proofs.Saves.{with_ram, saved, not_saved}
 use Rattle.nx_paged.proofs.Goods.{good_walked, good_byte}
 
 number_prop : (a b : Result ℕ ℕ) → IsProp (a ≡ b)

@@ -1,36 +1,33 @@
 -- What the start of a group does.
-use Rattle.std.proofs.Common.{◌≡◌, ◌≢◌, ℕ, zero, suc, ◌+◌, ◌-◌, ◌*◌, ◌/◌, ◌%◌, ◌^◌, ◌<◌, ◌≤◌, ◌⊎◌, ◌==◌, Bool, true, false, ◌&&◌, ◌||◌, not, List, [], ◌∷◌, ◌++◌, length, map, take, get_or, refl, sym, ap, ◌∙◌, subst, arith, ⊎_elim, inl, inr}
-use Rattle.std.specs.Prelude.{slice_index, if◌then◌else◌}
+use Rattle.std.proofs.Common.{◌≡◌, ◌≢◌, ℕ, zero, suc, ◌+◌, ◌-◌, ◌*◌, ◌/◌, ◌<◌, ◌≤◌, ◌⊎◌, ◌==◌, Bool, true, false, ◌&&◌, ◌||◌, not, List, [], ◌∷◌, ◌++◌, length, map, refl, sym, ap, ◌∙◌, subst, arith, ⊎_elim, inl, inr}
+use Rattle.std.specs.Prelude.{slice_index}
 use Rattle.std.specs.List.{All}
 use Rattle.std.proofs.lemmas.Bool.{cases_lt, cases_eq}
-use Rattle.std.proofs.lemmas.List.{length-append, append-nil}
+use Rattle.std.proofs.lemmas.List.{length-append}
 use Rattle.nx_base.specs.ByteLists.{AreBytes}
 use Rattle.nx_ram.specs.declared.prog_image.ProgImage.{ProgImage}
 use Rattle.nx_frames.specs.declared.frames.Taken.{Taken}
 use Rattle.nx_frames.specs.Chains as chains
 use Rattle.nx_frames.specs.Chains.{IsFrame}
-use Rattle.nx_frames.specs.Zeros.{AreZeroed, IsElsewhere}
-use Rattle.nx_frames.specs.Stock.{Stock, Holds, SameFrames, Takes, AreHeld, frames_of}
+use Rattle.nx_frames.specs.Zeros.{IsElsewhere}
+use Rattle.nx_frames.specs.Stock.{Stock, SameFrames, Takes, AreHeld, frames_of}
 use Rattle.nx_frames.proofs.Chains.{length-chain}
-use Rattle.nx_frames.proofs.Owners.{taken_held, held_back}
 use Rattle.nx_sv32.specs.Walk.{ram_start}
-use Rattle.nx_tables.specs.Maps.{Maps, satp_of}
-use Rattle.nx_tables.specs.Roles.{Role, Free, is_of, is_table, SameRoles, Stands}
+use Rattle.nx_tables.specs.Maps.{Maps}
+use Rattle.nx_tables.specs.Roles.{Role, Free, is_of, SameRoles, Stands}
 use Rattle.nx_tables.specs.Seen.{IsMapped}
-use Rattle.nx_tables.proofs.Kept.{same_number, other_number, of_one, table_is_of, stands_kept, same_roles}
+use Rattle.nx_tables.proofs.Kept.{same_number, other_number, of_one, table_is_of, stands_kept}
 use Rattle.nx_tables.proofs.Views.{seen_kept}
-use Rattle.nx_space.specs.World.{Group, Plan, World, has_view}
-use Rattle.nx_space.specs.Starts.{program_at, stack_low, pages_of, frames_for, paged, area_of, areas_of, own_parts, started, but_outside}
+use Rattle.nx_space.specs.World.{Plan}
+use Rattle.nx_space.specs.Starts.{program_at, stack_low, frames_for}
 use Rattle.nx_paged.specs.Tenants.{Tenant, has_tenant, are_distinct, frames_taken}
-use Rattle.nx_paged.specs.Spans.{Span, Each, IsSpan, span_of, stack_span, spans_of, parts_from, span_bytes}
-use Rattle.nx_paged.specs.Paging.{Paging, paged_plan, paged_group, paged_world, IsLaidOut, FitsPaged, IsTenant, IsPlaced, FrameAt, IsLive, IsPaged}
+use Rattle.nx_paged.specs.Spans.{Span, Each, IsSpan, spans_of, span_bytes}
+use Rattle.nx_paged.specs.Paging.{Paging, paged_plan, paged_group, FitsPaged, IsTenant, IsPlaced, FrameAt, IsLive, IsPaged}
 use Rattle.nx_paged.specs.Finding.{both_true, each_of}
 use Rattle.nx_paged.specs.Layout.{laid_out}
-use Rattle.nx_paged.specs.Lawful.{tenant_laid_out, fits_stacks}
-use Rattle.nx_paged.specs.Building.{IsFresh, regions_of}
-use Rattle.nx_paged.specs.Starting.{program_entries, CanStart, IsMappedIn, MapsAll}
-use Rattle.nx_paged.proofs.FrameLists.{each_left, each_right, each_at}
-use Rattle.nx_paged.proofs.Shown.{take_same}
+use Rattle.nx_paged.specs.Building.{IsFresh}
+use Rattle.nx_paged.specs.Starting.{CanStart, IsMappedIn}
+use Rattle.nx_paged.proofs.FrameLists.{each_left, each_at}
 use Rattle.nx_paged.proofs.Ends.{holdings, all_of, same_plan}
 use Rattle.nx_paged.proofs.Needs.{need_is}
 

@@ -1,11 +1,10 @@
 -- What the end of a group does.
-use Rattle.std.proofs.Common.{◌≡◌, ◌≢◌, ℕ, zero, suc, ◌+◌, ◌-◌, ◌*◌, ◌<◌, ◌≤◌, ◌==◌, Bool, true, false, ◌||◌, ◌&&◌, not, List, [], ◌∷◌, ◌++◌, length, map, take, drop, get_or, refl, sym, ap, ◌∙◌, subst, arith}
+use Rattle.std.proofs.Common.{◌≡◌, ◌≢◌, ℕ, zero, suc, ◌+◌, ◌*◌, ◌<◌, ◌==◌, Bool, true, false, ◌||◌, ◌&&◌, not, List, [], ◌∷◌, ◌++◌, length, map, get_or, refl, sym, ap, ◌∙◌, subst, arith}
 use Rattle.std.specs.Prelude.{if◌then◌else◌}
 use Rattle.std.specs.List.{All, remove}
 use Rattle.std.proofs.lemmas.Bool.Decides.{nat_tests}
 use Rattle.std.proofs.Props.{props}
 use Rattle.std.proofs.Math.Logic.{∥∥₁_elim}
-use Rattle.nx_sv32.specs.Walk.{ram_start}
 use Rattle.nx_frames.specs.declared.frames.Taken.{Taken}
 use Rattle.nx_frames.specs.Stock.{Stock, Holds, SameFrames, KeepsOthers, IsApartFrom, AreHeld, frames_of}
 use Rattle.std.proofs.lemmas.List.{length-append}
@@ -17,9 +16,9 @@ use Rattle.nx_space.specs.World.{Plan}
 use Rattle.nx_space.specs.Starts.{frames_for, without, finished, but_outside}
 use Rattle.nx_paged.specs.Tenants.{Tenant, has_tenant, are_distinct, root_of, place_of, frames_taken}
 use Rattle.nx_paged.specs.Spans.{Each}
-use Rattle.nx_paged.specs.Paging.{Paging, paged_plan, paged_group, paged_world, FitsPaged, IsTenant, IsPlaced, FrameAt, IsLive, IsPaged}
+use Rattle.nx_paged.specs.Paging.{Paging, paged_plan, paged_group, paged_world, IsTenant, IsPlaced, FrameAt, IsLive, IsPaged}
 use Rattle.nx_paged.proofs.HeldOnce.{holds_prop}
-use Rattle.nx_paged.specs.Finding.{each_of, both_true, Found, find_tenant}
+use Rattle.nx_paged.specs.Finding.{each_of, both_true, find_tenant}
 
 -- where there is no such group
 no_root : (ts : List Tenant) (number : ℕ) → has_tenant ts number ≡ false → root_of ts number ≡ 0

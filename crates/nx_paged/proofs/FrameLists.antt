@@ -1,12 +1,9 @@
 -- Frames of a list, one of which gets used.
-use Rattle.std.proofs.Common.{◌≡◌, ◌≢◌, ℕ, zero, suc, ◌+◌, ◌-◌, ◌*◌, ◌/◌, ◌<◌, ◌≤◌, List, [], ◌∷◌, ◌++◌, length, take, drop, drop-cons, get_or, refl, sym, ap, ◌∙◌, subst, arith}
+use Rattle.std.proofs.Common.{◌≡◌, ◌≢◌, ℕ, zero, suc, ◌+◌, ◌<◌, List, [], ◌∷◌, ◌++◌, length, take, drop, drop-cons, refl, sym, ap, ◌∙◌, subst, arith}
 use Rattle.std.specs.Prelude.{slice_index}
 use Rattle.nx_frames.specs.Chains as chains
 use Rattle.nx_frames.specs.Chains.{AreOnce}
-use Rattle.nx_sv32.specs.Walk.{ram_start}
-use Rattle.nx_tables.specs.Roles.{Role}
 use Rattle.nx_paged.specs.Spans.{Each}
-use Rattle.nx_paged.specs.Paging.{FrameAt}
 
 -- the frame at a place, and those before and after
 pub each_at : (P : ℕ → Type 0) (xs : List ℕ) (i : ℕ) → i < length xs → Each P xs → P (slice_index xs i)

@@ -1,13 +1,11 @@
 -- A space where no group has started.
-use Rattle.std.proofs.Common.{◌≡◌, ℕ, zero, suc, ◌+◌, ◌-◌, ◌*◌, ◌/◌, ◌%◌, ◌<◌, ◌≤◌, true, false, List, [], ◌∷◌, length, take, drop, drop-cons, refl, sym, ap, ◌∙◌, subst, arith}
+use Rattle.std.proofs.Common.{◌≡◌, ℕ, zero, suc, ◌+◌, ◌-◌, ◌*◌, ◌/◌, ◌%◌, true, false, List, [], ◌∷◌, length, drop, drop-cons, refl, sym, ap, ◌∙◌, subst, arith}
 use Rattle.std.specs.Prelude.{slice_index}
-use Rattle.std.specs.List.{All}
 use Rattle.std.proofs.lemmas.List.{drop_all}
 use Rattle.nx_base.specs.ByteLists.{AreBytes}
-use Rattle.nx_ram.specs.declared.prog_image.ProgImage.{ProgImage}
-use Rattle.nx_frames.specs.Stock.{Stock, frames_from}
+use Rattle.nx_frames.specs.Stock.{frames_from}
 use Rattle.nx_sv32.specs.Walk.{ram_start}
-use Rattle.nx_tables.specs.Roles.{Role, Free}
+use Rattle.nx_tables.specs.Roles.{Free}
 use Rattle.nx_paged.specs.Tenants.{frames_taken}
 use Rattle.nx_paged.specs.Spans.{Each}
 use Rattle.nx_paged.specs.Outside.{bytes_without, is_shown}

@@ -1,5 +1,5 @@
 -- What is good in the entered view is what the walk gives an address.
-use Rattle.std.proofs.Common.{◌≡◌, ◌≢◌, ℕ, zero, suc, ◌+◌, ◌-◌, ◌%◌, ◌^◌, ◌<◌, ◌≤◌, ◌==◌, Bool, true, false, ◌&&◌, ◌||◌, not, Option, Some, None, List, refl, sym, ap, ◌∙◌, subst, arith}
+use Rattle.std.proofs.Common.{◌≡◌, ◌≢◌, ℕ, zero, suc, ◌+◌, ◌-◌, ◌^◌, ◌<◌, ◌≤◌, ◌==◌, Bool, true, false, ◌&&◌, ◌||◌, not, Option, Some, None, List, refl, sym, ap, ◌∙◌, arith}
 use Rattle.std.specs.Prelude.{nat_le, Result}
 use Rattle.std.specs.Result.{is_err}
 use Rattle.nx_sv32.specs.declared.sv32.PageFault.{PageFault}
@@ -10,8 +10,8 @@ use Rattle.nx_base.specs.declared.access.Access.TheVariants.{Fetch, Load, Store}
 use Rattle.nx_base.specs.Good.{is_good}
 use Rattle.nx_sv32.specs.Walk.{walk, or_fault}
 use Rattle.nx_tables.specs.Maps.{satp_of, lets}
-use Rattle.nx_space.specs.World.{Part, IsEntered, group_in, view_in}
-use Rattle.nx_space.specs.Places.{Place, place_in}
+use Rattle.nx_space.specs.World.{IsEntered, group_in, view_in}
+use Rattle.nx_space.specs.Places.{place_in}
 use Rattle.nx_space.proofs.Stores.{lawful_laid}
 use Rattle.nx_space.proofs.Goods.{serves_part, is_placed, all_placed, good_placed}
 use Rattle.nx_paged.specs.Tenants.{root_of}
@@ -19,7 +19,6 @@ use Rattle.nx_paged.specs.Spans.{Span, part_of}
 use Rattle.nx_paged.specs.Walks.{all_walked}
 use Rattle.nx_paged.specs.Paging.{Paging, paged_plan, paged_world, IsPlaced, IsPaged}
 use Rattle.nx_paged.specs.Lawful.{paged_lawful}
-use Rattle.nx_paged.proofs.Hits.{Resolves}
 use Rattle.nx_paged.proofs.Accesses.{one_byte, walked, entered_tenant, entered_resolved, entered_refused}
 
 and_true : (a : Bool) → (a && true) ≡ a

@@ -1,8 +1,6 @@
 -- That frames are held can be shown in one way alone.
-use Rattle.std.proofs.Common.{◌≡◌, ◌≢◌, ℕ, ◌+◌, ◌-◌, ◌*◌, ◌<◌, ◌≤◌, List, [], ◌∷◌, length, map, refl, sym, ap, ◌∙◌, subst, arith}
-use Rattle.std.specs.Prelude.{slice_index}
+use Rattle.std.proofs.Common.{◌≡◌, ◌≢◌, ℕ, ◌-◌, ◌<◌, ◌≤◌, List, [], ◌∷◌, length, refl, ap, ◌∙◌, subst, arith}
 use Rattle.std.proofs.Props.{props}
-use Rattle.std.proofs.Math.Logic.{∥∥₁_elim}
 use Rattle.nx_frames.specs.declared.frames.Taken.{Taken}
 use Rattle.nx_frames.specs.Chains.{address, frame_after, Each, AreOnce, AreApart, IsFrame}
 use Rattle.nx_frames.specs.Stock.{Stock, Holds, frames_of}

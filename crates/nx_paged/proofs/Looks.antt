@@ -1,12 +1,12 @@
 -- What may be done with a page, by the pages that are mapped.
-use Rattle.std.proofs.Common.{◌≡◌, ◌≢◌, ℕ, zero, suc, ◌+◌, ◌*◌, ◌/◌, ◌%◌, ◌<◌, ◌≤◌, ◌⊎◌, ◌==◌, Bool, true, false, Option, Some, None, List, [], ◌∷◌, ◌++◌, length, refl, sym, ap, ◌∙◌, subst, arith, ⊎_elim, inl, inr}
+use Rattle.std.proofs.Common.{◌≡◌, ◌≢◌, ℕ, zero, suc, ◌+◌, ◌*◌, ◌/◌, ◌<◌, ◌≤◌, ◌⊎◌, ◌==◌, Bool, true, false, Option, Some, None, List, [], ◌∷◌, ◌++◌, length, refl, ap, ◌∙◌, arith, ⊎_elim, inl, inr}
 use Rattle.std.specs.Prelude.{if◌then◌else◌, nat_le, ◌&&◌}
 use Rattle.std.proofs.lemmas.Bool.{cases_eq, cases_lt}
 use Rattle.std.proofs.lemmas.Bool.Decides.{nat_tests}
 use Rattle.nx_tables.specs.Maps.{Page, Maps}
-use Rattle.nx_tables.specs.Seen.{PageAt, IsMapped}
+use Rattle.nx_tables.specs.Seen.{PageAt}
 use Rattle.nx_space.specs.Starts.{pages_of}
-use Rattle.nx_paged.specs.Spans.{Span, Each, span_of, covers, Hit, first_span}
+use Rattle.nx_paged.specs.Spans.{Span, Each, span_of, covers, first_span}
 use Rattle.nx_paged.specs.Building.{Entry, entries_from, look, right_of}
 
 same : (a b : ℕ) → a ≡ b → (a == b) ≡ true

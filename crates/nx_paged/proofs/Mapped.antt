@@ -1,23 +1,21 @@
 -- A program's windows are mapped, and show its bytes and zeros.
-use Rattle.std.proofs.Common.{◌≡◌, ◌≢◌, ℕ, zero, suc, ◌+◌, ◌-◌, ◌*◌, ◌/◌, ◌%◌, ◌<◌, ◌≤◌, ◌⊎◌, ◌==◌, Bool, true, false, Option, Some, None, List, [], ◌∷◌, ◌++◌, length, take, get_or, refl, sym, ap, ◌∙◌, subst, arith, ⊎_elim, inl, inr}
-use Rattle.std.specs.Prelude.{slice_index}
+use Rattle.std.proofs.Common.{◌≡◌, ◌≢◌, ℕ, ◌+◌, ◌*◌, ◌/◌, ◌%◌, ◌<◌, ◌≤◌, ◌⊎◌, Bool, true, false, Some, None, List, [], ◌∷◌, ◌++◌, length, refl, sym, ap, ◌∙◌, subst, arith, ⊎_elim, inl, inr}
 use Rattle.std.specs.Option.{is_some}
 use Rattle.std.proofs.lemmas.List.{append-nil, take_all}
 use Rattle.nx_base.specs.ByteLists.{put_bytes}
-use Rattle.nx_base.specs.declared.access.Access.TheVariants.{Load}
 use Rattle.nx_ram.specs.declared.prog_image.ProgImage.{ProgImage}
-use Rattle.nx_sv32.specs.Walk.{ram_start, walk}
-use Rattle.nx_tables.specs.Maps.{Page, Maps, satp_of}
-use Rattle.nx_tables.specs.Roles.{Role, Free, Root, Table, Leaf, is_table, is_of, IsZeroed, Stands}
-use Rattle.nx_tables.specs.Seen.{byte_by, seen, PageAt, IsMapped}
-use Rattle.nx_tables.proofs.Kept.{leaf_is_of, table_is_of}
+use Rattle.nx_sv32.specs.Walk.{ram_start}
+use Rattle.nx_tables.specs.Maps.{Maps, satp_of}
+use Rattle.nx_tables.specs.Roles.{Role, Free, Root, Table, Leaf, is_table, is_of, Stands}
+use Rattle.nx_tables.specs.Seen.{seen, IsMapped}
+use Rattle.nx_tables.proofs.Kept.{leaf_is_of}
 use Rattle.nx_tables.proofs.Views.{length-seen, get-seen, byte_mapped, seen_by_frames}
-use Rattle.nx_space.specs.Starts.{different, pages_of, paged}
+use Rattle.nx_space.specs.Starts.{pages_of, paged}
 use Rattle.nx_paged.specs.Spans.{Span, Each, span_of, covers, first_span}
-use Rattle.nx_paged.specs.Paging.{IsLaidOut, FrameAt}
-use Rattle.nx_paged.specs.Building.{Entry, entries_from, regions_of, look, right_of, Site, Building}
-use Rattle.nx_paged.specs.Writing.{IsPlace, HasPlace, Writes, WritesAll}
-use Rattle.nx_paged.specs.Starting.{program_spans, CanStart, IsMappedIn}
+use Rattle.nx_paged.specs.Paging.{FrameAt}
+use Rattle.nx_paged.specs.Building.{Entry, look, right_of, Site, Building}
+use Rattle.nx_paged.specs.Writing.{IsPlace, Writes, WritesAll}
+use Rattle.nx_paged.specs.Starting.{program_spans, IsMappedIn}
 use Rattle.nx_paged.proofs.Looks.{look_in, look_out, right_page, no_right, each_span, each_spans, none_covers, not_covered, span_clear, each_front, each_back}
 use Rattle.nx_paged.proofs.Roots.{site_of, Sized, all_of, all_regions, data_of, stack_of, length-all, enough_is}
 use Rattle.nx_paged.proofs.Zeros.{zeros, put-zeros, are_zeros}

@@ -1,17 +1,16 @@
 -- The frames that a start needs.
-use Rattle.std.proofs.Common.{◌≡◌, ℕ, zero, suc, ◌+◌, ◌-◌, ◌*◌, ◌/◌, ◌%◌, ◌<◌, ◌≤◌, Bool, true, false, List, [], ◌∷◌, ◌++◌, length, map, refl, sym, ap, ◌∙◌, subst, arith}
+use Rattle.std.proofs.Common.{◌≡◌, ℕ, zero, suc, ◌+◌, ◌/◌, ◌≤◌, Bool, true, false, List, [], ◌∷◌, ◌++◌, length, map, refl, sym, ap, ◌∙◌, arith}
 use Rattle.std.specs.Prelude.{if◌then◌else◌}
 use Rattle.std.proofs.lemmas.List.{length-append, append-nil}
 use Rattle.nx_ram.specs.declared.prog_image.ProgImage.{ProgImage}
 use Rattle.nx_space.specs.World.{Plan}
-use Rattle.nx_space.specs.Starts.{program_at, stack_low, pages_of, pages_from, pages_at, mapped_pages, different, frames_for}
+use Rattle.nx_space.specs.Starts.{program_at, stack_low, pages_of, pages_from, different, frames_for}
 use Rattle.nx_paged.specs.Spans.{Each}
 use Rattle.nx_paged.specs.Paging.{IsLaidOut}
-use Rattle.nx_paged.specs.Building.{Entry, entries_from, regions_of}
-use Rattle.nx_paged.specs.Starting.{entries_at, program_entries}
-use Rattle.nx_paged.proofs.Rooms.{length-entries}
+use Rattle.nx_paged.specs.Building.{entries_from, regions_of}
+use Rattle.nx_paged.specs.Starting.{program_entries}
 use Rattle.nx_paged.proofs.Regions.{regions_from, different_apart, regions_low, regions_high}
-use Rattle.nx_paged.proofs.Roots.{all_of, all_regions, data_regions, stack_regions, length-all, regions_are}
+use Rattle.nx_paged.proofs.Roots.{all_regions, data_regions, stack_regions, length-all, regions_are}
 
 regions_entries : (first n : ℕ) (writes : Bool) → regions_of (entries_from first n writes) ≡ regions_from first n
 regions_entries first zero writes = refl

@@ -1,6 +1,5 @@
 -- The space and its world after a start.
-use Rattle.std.proofs.Common.{◌≡◌, ◌≢◌, ℕ, zero, suc, ◌+◌, ◌-◌, ◌*◌, ◌/◌, ◌%◌, ◌<◌, ◌≤◌, ◌⊎◌, Bool, true, false, not, List, [], ◌∷◌, ◌++◌, length, map, take, get_or, refl, sym, ap, ◌∙◌, subst, arith, ⊎_elim, inl, inr}
-use Rattle.std.specs.Prelude.{slice_index}
+use Rattle.std.proofs.Common.{◌≡◌, ◌≢◌, ℕ, zero, suc, ◌+◌, ◌-◌, ◌*◌, ◌/◌, ◌%◌, ◌<◌, ◌≤◌, Bool, true, false, not, List, [], ◌∷◌, ◌++◌, length, map, take, get_or, refl, sym, ap, ◌∙◌, subst, arith, ⊎_elim}
 use Rattle.std.specs.List.{All}
 use Rattle.std.proofs.lemmas.List.{length-append, append-nil}
 use Rattle.nx_frames.specs.declared.frames.Taken.{Taken}
@@ -12,19 +11,18 @@ use Rattle.nx_sv32.specs.Walk.{ram_start}
 use Rattle.nx_tables.specs.Maps.{satp_of}
 use Rattle.nx_tables.specs.Roles.{Role, Free, is_of}
 use Rattle.nx_tables.specs.Seen.{seen}
-use Rattle.nx_space.specs.World.{Own, Part, Group, Plan, World}
-use Rattle.nx_space.specs.Starts.{Area, program_at, stack_low, pages_of, paged, area_of, stack_area, areas_of, own_parts, frames_for, started, but_outside}
-use Rattle.nx_paged.specs.Tenants.{Tenant, has_tenant}
-use Rattle.nx_paged.specs.Spans.{Span, Each, span_of, stack_span, spans_of, parts_from, span_bytes}
-use Rattle.nx_paged.specs.Paging.{Paging, paged_plan, paged_group, paged_world, IsTenant, IsPlaced, FrameAt, IsLive, IsPaged}
+use Rattle.nx_space.specs.World.{Own, Part, Group, Plan}
+use Rattle.nx_space.specs.Starts.{pages_of, paged, area_of, areas_of, own_parts, frames_for, started, but_outside}
+use Rattle.nx_paged.specs.Spans.{Each, span_of, spans_of, parts_from, span_bytes}
+use Rattle.nx_paged.specs.Paging.{Paging, paged_plan, paged_group, paged_world, FrameAt, IsLive, IsPaged}
 use Rattle.nx_paged.specs.Lawful.{fits_stacks}
-use Rattle.nx_paged.specs.Layout.{laid_out, AreLaidOut, group_laid_out}
+use Rattle.nx_paged.specs.Layout.{laid_out, group_laid_out}
 use Rattle.nx_paged.specs.Starting.{IsMappedIn}
-use Rattle.nx_paged.proofs.FrameLists.{each_right, each_map}
+use Rattle.nx_paged.proofs.FrameLists.{each_right}
 use Rattle.nx_paged.proofs.Shown.{take_same}
 use Rattle.nx_paged.proofs.Zeros.{zeros, length-zeros}
 use Rattle.nx_paged.proofs.Ends.{holdings, same_plan}
-use Rattle.nx_paged.proofs.Begun.{Starts, program_in, low_of, can_start, elsewhere_of, Untouched, untouched, still_groups, still_lives, newcomer, with_newcomer, each_last, map_last, still_nobody, one_or_none}
+use Rattle.nx_paged.proofs.Begun.{Starts, program_in, low_of, can_start, elsewhere_of, untouched, still_groups, still_lives, newcomer, with_newcomer, each_last, map_last, still_nobody, one_or_none}
 
 one_slot : (n slot : ℕ) → slot < n → All (λ x. x < n) (slot ∷ [])
 one_slot n slot h zero d l = h

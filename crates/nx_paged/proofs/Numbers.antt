@@ -1,11 +1,9 @@
 -- Groups by their numbers.
-use Rattle.std.proofs.Common.{◌≡◌, ◌≢◌, ℕ, zero, suc, ◌+◌, ◌<◌, ◌≤◌, ◌==◌, Bool, true, false, ◌||◌, ◌&&◌, not, List, [], ◌∷◌, length, map, drop, drop-cons, get_or, refl, sym, ap, ◌∙◌, arith}
+use Rattle.std.proofs.Common.{◌≡◌, ◌≢◌, ℕ, suc, ◌+◌, ◌<◌, ◌≤◌, ◌==◌, true, false, List, length, drop, drop-cons, get_or, ap, ◌∙◌, arith}
 use Rattle.std.specs.Prelude.{if◌then◌else◌}
 use Rattle.std.proofs.lemmas.Bool.Decides.{nat_tests}
 use Rattle.std.proofs.lemmas.List.{drop_all}
-use Rattle.nx_space.specs.World.{Plan, has_view}
-use Rattle.nx_paged.specs.Tenants.{Tenant, has_tenant, are_distinct, root_of, place_of}
-use Rattle.nx_paged.specs.Paging.{paged_group}
+use Rattle.nx_paged.specs.Tenants.{Tenant, root_of, place_of}
 
 pub same_number : (a b : ℕ) → a ≡ b → (a == b) ≡ true
 same_number a b e = grind (arith, nat_tests)

@@ -1,12 +1,12 @@
 -- There are frames for what is added, and what is added together.
-use Rattle.std.proofs.Common.{◌≡◌, ◌≢◌, ℕ, zero, suc, ◌+◌, ◌-◌, ◌*◌, ◌/◌, ◌%◌, ◌<◌, ◌≤◌, ◌==◌, Bool, true, false, ◌||◌, Option, Some, None, List, [], ◌∷◌, ◌++◌, length, map, refl, sym, ap, ◌∙◌, subst, arith}
+use Rattle.std.proofs.Common.{◌≡◌, ℕ, zero, suc, ◌+◌, ◌-◌, ◌*◌, ◌/◌, ◌%◌, ◌<◌, ◌≤◌, ◌==◌, Bool, true, false, ◌||◌, Option, Some, None, List, [], ◌∷◌, ◌++◌, length, refl, sym, ap, ◌∙◌, subst, arith}
 use Rattle.std.specs.Prelude.{if◌then◌else◌, slice_index}
 use Rattle.std.specs.List.{list_any}
 use Rattle.std.specs.Option.{is_some}
 use Rattle.std.proofs.lemmas.List.{length-append}
 use Rattle.nx_base.specs.ByteLists.{put_bytes, to_le}
 use Rattle.nx_sv32.specs.Walk.{ram_start, entry_at}
-use Rattle.nx_tables.specs.Maps.{Maps, pointer_to, leaf_of, table_by}
+use Rattle.nx_tables.specs.Maps.{pointer_to, leaf_of, table_by}
 use Rattle.nx_tables.proofs.Walked.{root_tells}
 use Rattle.nx_tables.proofs.Kept.{same_number}
 use Rattle.nx_space.specs.Starts.{different}

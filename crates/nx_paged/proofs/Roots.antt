@@ -1,5 +1,5 @@
 -- The first frame becomes a root, and the windows of a program are added.
-use Rattle.std.proofs.Common.{◌≡◌, ◌≢◌, ℕ, zero, suc, ◌+◌, ◌-◌, ◌*◌, ◌/◌, ◌%◌, ◌<◌, ◌≤◌, ◌==◌, Bool, true, false, Some, None, List, [], ◌∷◌, ◌++◌, length, refl, sym, ap, ◌∙◌, subst, arith}
+use Rattle.std.proofs.Common.{◌≡◌, ◌≢◌, ℕ, ◌+◌, ◌-◌, ◌*◌, ◌/◌, ◌<◌, ◌≤◌, true, false, List, [], ◌∷◌, ◌++◌, length, refl, sym, ap, ◌∙◌, arith}
 use Rattle.std.specs.Prelude.{if◌then◌else◌, slice_index}
 use Rattle.std.proofs.lemmas.List.{length-append, append-nil}
 use Rattle.nx_ram.specs.declared.prog_image.ProgImage.{ProgImage}
@@ -13,7 +13,7 @@ use Rattle.nx_space.specs.Starts.{different, pages_of}
 use Rattle.nx_paged.specs.Spans.{Each}
 use Rattle.nx_paged.specs.Paging.{FrameAt}
 use Rattle.nx_paged.specs.Building.{Entry, entries_from, look, regions_of, IsFresh, Site, Building, HasRoom, Adds}
-use Rattle.nx_paged.specs.Starting.{entries_at, program_entries, CanStart, Startable}
+use Rattle.nx_paged.specs.Starting.{entries_at, program_entries, CanStart}
 use Rattle.nx_paged.proofs.Rooms.{length-entries, different_more}
 
 abbrev pub site_of : List ℕ → List ℕ → ℕ → (ℕ → Role) → ℕ → Site

@@ -1,6 +1,6 @@
 -- What a store through the tables comes to.
-use Rattle.std.proofs.Common.{◌≡◌, ◌≢◌, ℕ, suc, ◌+◌, ◌-◌, ◌*◌, ◌/◌, ◌%◌, ◌^◌, ◌<◌, ◌≤◌, ◌⊎◌, Bool, true, false, Some, None, List, [], ◌∷◌, length, map, take, get_or, refl, sym, ap, ◌∙◌, subst, arith, ⊎_elim, inl, inr, add-zero, zero-add}
-use Rattle.std.specs.Prelude.{if◌then◌else◌, slice_index_or, slice_set, Ok, Err}
+use Rattle.std.proofs.Common.{◌≡◌, ◌≢◌, ℕ, suc, ◌+◌, ◌-◌, ◌*◌, ◌/◌, ◌%◌, ◌<◌, ◌≤◌, Bool, true, false, Some, None, List, [], ◌∷◌, length, map, take, get_or, refl, sym, ap, ◌∙◌, subst, arith, ⊎_elim, inl, inr, add-zero, zero-add}
+use Rattle.std.specs.Prelude.{if◌then◌else◌, slice_set, Err}
 use Rattle.std.proofs.lemmas.Bool.{cases_lt}
 use Rattle.std.proofs.lemmas.Bool.Decides.{nat_tests}
 use Rattle.nx_base.specs.ByteLists.{put_bytes, to_le, AreBytes}
@@ -9,23 +9,23 @@ use Rattle.nx_base.proofs.Puts.{length-to_le, length-put_bytes, get-put_bytes_ot
 use Rattle.nx_base.specs.declared.access.Access.TheVariants.{Load, Store}
 use Rattle.nx_ram.proofs.Puts.{small_put, small_number}
 use Rattle.nx_sv32.specs.Walk.{ram_start, walk}
-use Rattle.nx_tables.specs.Maps.{Maps, satp_of, translated, lets}
-use Rattle.nx_tables.specs.Roles.{Role, Leaf, is_of, Stands}
+use Rattle.nx_tables.specs.Maps.{Maps, satp_of, translated}
+use Rattle.nx_tables.specs.Roles.{Role, Leaf, Stands}
 use Rattle.nx_tables.specs.Seen.{PageAt, IsMapped}
 use Rattle.nx_tables.proofs.Kept.{leaf_is_of}
 use Rattle.nx_tables.proofs.Walked.{walk_mapped}
 use Rattle.nx_tables.proofs.Views.{page_written, seen_put, seen_other}
-use Rattle.nx_space.specs.World.{Own, Group, Plan, World, IsEntered, view_in, group_in}
+use Rattle.nx_space.specs.World.{Own, IsEntered, view_in, group_in}
 use Rattle.nx_space.specs.Places.{Place, written_at, with_own, put_into, with_bytes}
 use Rattle.nx_space.proofs.Stores.{Stored, stored, not_stored}
 use Rattle.nx_paged.specs.Tenants.{Tenant}
 use Rattle.nx_paged.specs.Spans.{Span, Each, span_bytes, spans_of, covers, Hit, first_span, IsSpan, IsApart, AreApart}
-use Rattle.nx_paged.specs.Outside.{is_seen, in_spans, is_shown, bytes_without, outside_of}
-use Rattle.nx_paged.specs.Paging.{Paging, paged_plan, paged_group, paged_world, FitsPaged, IsTenant, IsPlaced, IsLive, IsPaged}
+use Rattle.nx_paged.specs.Outside.{in_spans, is_shown, bytes_without, outside_of}
+use Rattle.nx_paged.specs.Paging.{Paging, paged_plan, paged_group, paged_world, FitsPaged, IsPlaced, IsLive, IsPaged}
 use Rattle.nx_paged.specs.Finding.{Found}
 use Rattle.nx_paged.specs.Lawful.{paged_lawful}
 use Rattle.nx_paged.proofs.Hits.{Resolves}
-use Rattle.nx_paged.proofs.Accesses.{InPage, IsInside, writes_store, walked, entered_tenant, entered_walk, entered_resolved, entered_refused, hit_bytes}
+use Rattle.nx_paged.proofs.Accesses.{InPage, writes_store, walked, entered_tenant, entered_resolved, entered_refused, hit_bytes}
 use Rattle.nx_paged.proofs.Shown.{seen_at, StandsBoth, shown_same, without_same, take_same}
 
 -- no address of a window lies in a page of a group

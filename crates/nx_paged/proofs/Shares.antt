@@ -1,5 +1,5 @@
 -- What starts and ends do to the free frames, and that groups share nothing.
-use Rattle.std.proofs.Common.{◌≡◌, ◌≢◌, ℕ, ◌+◌, ◌-◌, ◌*◌, ◌/◌, ◌%◌, ◌<◌, ◌≤◌, ◌==◌, Bool, true, false, ◌||◌, Option, Some, None, List, [], ◌∷◌, ◌++◌, length, refl, sym, ap, ◌∙◌, arith}
+use Rattle.std.proofs.Common.{◌≡◌, ◌≢◌, ℕ, ◌+◌, ◌*◌, ◌/◌, ◌%◌, ◌<◌, ◌≤◌, ◌==◌, Bool, true, false, ◌||◌, Option, Some, None, List, [], ◌∷◌, ◌++◌, refl, sym, ap, ◌∙◌, arith}
 use Rattle.std.specs.Prelude.{if◌then◌else◌}
 use Rattle.nx_base.specs.declared.access.Access.{Access}
 use Rattle.nx_sv32.specs.Walk.{ram_start, walk}
@@ -12,7 +12,7 @@ use Rattle.nx_space.specs.Lawful.{IsWorld}
 use Rattle.nx_space.specs.Starts.{frames_of, needs, free, start_need, started, finished, without, but_outside, paged_start, shared_start}
 use Rattle.nx_paged.specs.Tenants.{has_tenant, root_of}
 use Rattle.nx_paged.specs.Paging.{Paging, paged_plan, IsLive, IsPaged}
-use Rattle.nx_paged.specs.Finding.{Found, find_tenant}
+use Rattle.nx_paged.specs.Finding.{find_tenant}
 use Rattle.nx_paged.proofs.Newcomers.{started_group}
 
 needs_last : (plan : Plan) (gs : List Group) (g : Group) → needs plan (gs ++ g ∷ []) ≡ needs plan gs + frames_of plan g

@@ -1,14 +1,11 @@
 -- What no window shows stays where only a page is written.
-use Rattle.std.proofs.Common.{◌≡◌, ◌≢◌, ℕ, zero, suc, ◌+◌, ◌-◌, ◌*◌, ◌/◌, ◌%◌, ◌<◌, ◌≤◌, ◌⊎◌, ◌==◌, Bool, true, false, ◌||◌, Option, Some, None, List, [], ◌∷◌, length, take, get_or, refl, sym, ap, ◌∙◌, subst, arith, ⊎_elim, inl, inr, add-zero}
+use Rattle.std.proofs.Common.{◌≡◌, ℕ, zero, suc, ◌+◌, ◌<◌, ◌≤◌, ◌==◌, Bool, true, false, ◌||◌, Some, List, [], ◌∷◌, length, take, get_or, refl, sym, ap, ◌∙◌, subst, arith, add-zero}
 use Rattle.std.specs.Prelude.{if◌then◌else◌, slice_index}
-use Rattle.std.proofs.lemmas.Bool.{cases_lt}
 use Rattle.std.proofs.lemmas.Bool.Decides.{nat_tests}
 use Rattle.std.proofs.lemmas.List.{length-take, get_or-take, ext_get_or}
-use Rattle.nx_base.specs.ByteLists.{put_bytes}
 use Rattle.nx_base.specs.declared.access.Access.TheVariants.{Load}
-use Rattle.nx_base.proofs.Puts.{length-put_bytes, get-put_bytes_other}
 use Rattle.nx_sv32.specs.Walk.{ram_start, walk}
-use Rattle.nx_tables.specs.Maps.{Maps, satp_of, translated}
+use Rattle.nx_tables.specs.Maps.{Maps, satp_of}
 use Rattle.nx_tables.specs.Roles.{Role, Stands}
 use Rattle.nx_tables.proofs.Walked.{walk_mapped}
 use Rattle.nx_space.specs.World.{Plan}

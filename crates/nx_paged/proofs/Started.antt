@@ -1,18 +1,18 @@
 -- What the parts of a start come to together.
-use Rattle.std.proofs.Common.{◌≡◌, ℕ, ◌+◌, ◌-◌, ◌*◌, ◌/◌, ◌<◌, ◌≤◌, Bool, true, false, List, [], ◌∷◌, ◌++◌, length, map, refl, sym, ap, ◌∙◌, subst, arith}
-use Rattle.std.specs.Prelude.{slice_index, if◌then◌else◌, Result, Ok, Err, IsOk}
+use Rattle.std.proofs.Common.{◌≡◌, ℕ, ◌+◌, ◌≤◌, Bool, List, [], ◌∷◌, ◌++◌, length, refl, sym, ap, ◌∙◌, subst, arith}
+use Rattle.std.specs.Prelude.{if◌then◌else◌, Result, Ok, Err, IsOk}
 use Rattle.std.specs.Result.{is_ok}
 use Rattle.std.proofs.Props.{props}
 use Rattle.std.proofs.Math.Logic.{∥∥₁_elim}
 use Rattle.std.proofs.lemmas.List.{length-append}
 use Rattle.nx_ram.specs.declared.prog_image.ProgImage.{ProgImage}
 use Rattle.nx_frames.specs.declared.frames.Taken.{Taken}
-use Rattle.nx_frames.specs.Stock.{Stock, Takes, frames_of}
+use Rattle.nx_frames.specs.Stock.{Stock, frames_of}
 use Rattle.nx_frames.proofs.Chains.{length-chain}
 use Rattle.nx_space.specs.World.{World}
-use Rattle.nx_space.specs.Starts.{different, frames_for, free, start_need, started, but_outside}
+use Rattle.nx_space.specs.Starts.{different, free, start_need, started, but_outside}
 use Rattle.nx_paged.specs.Tenants.{Tenant}
-use Rattle.nx_paged.specs.Paging.{Paging, paged_plan, paged_group, paged_world, IsPlaced, IsPaged}
+use Rattle.nx_paged.specs.Paging.{Paging, paged_plan, paged_world, IsPlaced, IsPaged}
 use Rattle.nx_paged.specs.Lawful.{needs_taken}
 use Rattle.nx_paged.specs.Building.{regions_of}
 use Rattle.nx_paged.specs.Starting.{program_entries, CanStart, Startable, IsMappedIn, MapsAll}

@@ -1,6 +1,6 @@
 -- Bytes that are written page by page.
-use Rattle.std.proofs.Common.{◌≡◌, ◌≢◌, ℕ, zero, suc, ◌+◌, ◌-◌, ◌*◌, ◌/◌, ◌%◌, ◌^◌, ◌<◌, ◌≤◌, Bool, true, false, Option, Some, None, List, [], ◌∷◌, ◌++◌, length, take, drop, get_or, refl, sym, ap, ◌∙◌, subst, arith, ⊎_elim}
-use Rattle.std.specs.Prelude.{slice_index, slice_set, slice_range, Result, Ok, Err, min}
+use Rattle.std.proofs.Common.{◌≡◌, ℕ, suc, ◌+◌, ◌-◌, ◌*◌, ◌/◌, ◌%◌, ◌<◌, ◌≤◌, Bool, Some, None, List, [], ◌∷◌, ◌++◌, length, take, drop, refl, sym, ap, ◌∙◌, subst, arith, ⊎_elim}
+use Rattle.std.specs.Prelude.{slice_set, slice_range, Ok, Err, min}
 use Rattle.std.proofs.lemmas.List.{length-set, length-take, length-drop, take_all}
 use Rattle.std.proofs.lemmas.Bool.{cases_lt}
 use Rattle.std.proofs.Math.Seq.{take-add}
@@ -9,13 +9,13 @@ use Rattle.nx_base.specs.declared.access.Access.TheVariants.{Load}
 use Rattle.nx_base.proofs.Puts.{put_bytes-none, put_bytes-more, length-put_bytes}
 use Rattle.nx_sv32.specs.Walk.{ram_start, walk, or_fault}
 use Rattle.nx_sv32.specs.declared.sv32.PageFault.{PageFault}
-use Rattle.nx_tables.specs.Maps.{Maps, satp_of, translated}
-use Rattle.nx_tables.specs.Roles.{Role, Leaf, Stands}
+use Rattle.nx_tables.specs.Maps.{Maps, translated}
+use Rattle.nx_tables.specs.Roles.{Role}
 use Rattle.nx_tables.specs.Seen.{seen, PageAt}
 use Rattle.nx_tables.proofs.Walked.{walk_mapped}
 use Rattle.nx_tables.proofs.Kept.{byte_elsewhere}
 use Rattle.nx_tables.proofs.Views.{length-seen, page_written, seen_put}
-use Rattle.nx_paged.specs.Writing.{IsPlace, HasPlace, Writes, WritesAll}
+use Rattle.nx_paged.specs.Writing.{IsPlace, HasPlace, WritesAll}
 use Rattle.nx_paged.proofs.Accesses.{walk_is, walk_is_none}
 
 -- the page at a place of the window, and its frame

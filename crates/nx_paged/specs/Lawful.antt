@@ -1,22 +1,21 @@
 -- What holds of every world of a paged space.
-use Rattle.std.proofs.Common.{◌≡◌, ◌≢◌, ℕ, zero, suc, ◌+◌, ◌-◌, ◌*◌, ◌<◌, ◌≤◌, ◌⊎◌, ◌==◌, Bool, true, false, ◌&&◌, not, Option, Some, None, List, [], ◌∷◌, ◌++◌, length, map, take, refl, sym, ap, ◌∙◌, subst, arith, inl, append_assoc}
-use Rattle.std.specs.Prelude.{if◌then◌else◌, slice_index, slice_index_or}
-use Rattle.std.specs.List.{All}
+use Rattle.std.proofs.Common.{◌≡◌, ℕ, zero, suc, ◌+◌, ◌-◌, ◌<◌, ◌==◌, Bool, true, false, Option, Some, None, List, [], ◌∷◌, ◌++◌, length, map, take, refl, sym, ap, ◌∙◌, subst, arith, inl, append_assoc}
+use Rattle.std.specs.Prelude.{if◌then◌else◌, slice_index}
 use Rattle.std.proofs.lemmas.List.{length-map, length-take, length-append, get_or_at, get_or_past, get_or-take}
 use Rattle.std.proofs.lemmas.Bool.{cases_lt}
-use Rattle.std.proofs.Common.{⊎_elim, inr}
+use Rattle.std.proofs.Common.{⊎_elim}
 use Rattle.nx_base.specs.ByteLists.{AreBytes}
 use Rattle.nx_base.specs.declared.access.Access.TheVariants.{Load}
 use Rattle.nx_sv32.specs.Walk.{ram_start, walk}
 use Rattle.nx_tables.specs.Maps.{satp_of}
 use Rattle.nx_tables.specs.Seen.{byte_by, seen}
-use Rattle.nx_space.specs.World.{Home, Common, Own, Part, Group, Plan, World, has_view, group_of, bytes_in, bytes_of, seen_by}
+use Rattle.nx_space.specs.World.{Home, Common, Own, Group, Plan, has_view, group_of, bytes_in, seen_by}
 use Rattle.nx_space.specs.Lawful.{IsApartFrom, AreParts, AreOwn, AreNumbered, IsAlone, IsWorld}
-use Rattle.nx_space.specs.Starts.{frames_for, needs, program_at}
+use Rattle.nx_space.specs.Starts.{frames_for, needs}
 use Rattle.nx_paged.specs.Tenants.{Tenant, has_tenant, are_distinct, frames_taken}
-use Rattle.nx_paged.specs.Spans.{Span, Each, part_of, parts_from, span_bytes, spans_of}
-use Rattle.nx_paged.specs.Paging.{Paging, paged_plan, paged_group, paged_world, FitsPaged, IsTenant, IsPlaced}
-use Rattle.nx_paged.specs.Finding.{each_of, both_true, tenant_view, Found, find_tenant}
+use Rattle.nx_paged.specs.Spans.{Span, part_of, parts_from, span_bytes, spans_of}
+use Rattle.nx_paged.specs.Paging.{Paging, paged_plan, paged_group, paged_world, IsTenant, IsPlaced}
+use Rattle.nx_paged.specs.Finding.{each_of, both_true, tenant_view, find_tenant}
 use Rattle.nx_paged.specs.Layout.{FitsStacks, AreLaidOut, laid_out, group_laid_out, stack_held, data_held}
 
 pub length-seen : (ram : List ℕ) (satp at n : ℕ) → length (seen ram satp at n) ≡ n

@@ -1,16 +1,16 @@
 -- The windows of a group stand apart, each of whole pages.
-use Rattle.std.proofs.Common.{◌≡◌, ◌≢◌, ℕ, zero, suc, ◌+◌, ◌-◌, ◌*◌, ◌/◌, ◌%◌, ◌<◌, ◌≤◌, ◌⊎◌, ◌==◌, Bool, true, false, ◌&&◌, ◌||◌, not, List, [], ◌∷◌, ◌++◌, length, refl, sym, ap, ◌∙◌, subst, arith, ⊎_elim, inl, inr}
-use Rattle.std.specs.Prelude.{if◌then◌else◌, nat_le, slice_index_or}
+use Rattle.std.proofs.Common.{◌≡◌, ◌≢◌, ℕ, suc, ◌+◌, ◌*◌, ◌%◌, ◌<◌, ◌≤◌, ◌⊎◌, ◌==◌, Bool, true, false, ◌&&◌, ◌||◌, not, List, [], ◌∷◌, ◌++◌, length, refl, ap, ◌∙◌, subst, arith, ⊎_elim, inl, inr}
+use Rattle.std.specs.Prelude.{slice_index_or}
 use Rattle.std.specs.List.{All, list_any}
 use Rattle.std.proofs.lemmas.Bool.{cases_lt}
 use Rattle.std.proofs.lemmas.Bool.Decides.{nat_tests}
 use Rattle.nx_ram.specs.declared.prog_image.ProgImage.{ProgImage}
-use Rattle.nx_space.specs.World.{Own, Part, Plan}
+use Rattle.nx_space.specs.World.{Plan}
 use Rattle.nx_space.specs.Places.{lies_in, place_in, written_at, is_clear}
 use Rattle.nx_space.specs.Starts.{no_program, program_at, stack_low, pages_of, has_slot}
 use Rattle.nx_paged.specs.Tenants.{are_once}
 use Rattle.nx_paged.specs.Spans.{Span, Each, span_of, stack_span, stack_spans, spans_of, part_of, parts_from, IsSpan, IsApart, AreApart}
-use Rattle.nx_paged.specs.Paging.{Paging, paged_plan, IsLaidOut, FitsPaged, IsTenant}
+use Rattle.nx_paged.specs.Paging.{IsLaidOut}
 
 -- facts of each of two lists
 pub each_append : (P : Span → Type 0) (xs ys : List Span) → Each P xs → Each P ys → Each P (xs ++ ys)

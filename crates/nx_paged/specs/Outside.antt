@@ -1,5 +1,5 @@
 -- The bytes of a RAM that no window shows.
-use Rattle.std.specs.Prelude.{ℕ, zero, suc, ◌+◌, ◌-◌, ◌==◌, Bool, true, false, ◌||◌, if◌then◌else◌, List, [], ◌∷◌, length, Option, Some, None, slice_index}
+use Rattle.std.specs.Prelude.{ℕ, zero, suc, ◌+◌, ◌-◌, ◌==◌, Bool, false, ◌||◌, if◌then◌else◌, List, [], ◌∷◌, length, Option, Some, None, slice_index}
 use Rattle.nx_base.specs.declared.access.Access.TheVariants.{Load}
 use Rattle.nx_sv32.specs.Walk.{ram_start, walk}
 use Rattle.nx_tables.specs.Maps.{satp_of}

@@ -1,5 +1,5 @@
 -- A space whose views are given by page tables in its RAM.
-use Rattle.std.specs.Prelude.{◌≡◌, ℕ, suc, ◌+◌, ◌-◌, ◌*◌, ◌/◌, ◌%◌, ◌^◌, ◌<◌, ◌≤◌, ◌==◌, Bool, true, List, [], ◌∷◌, length, map, take, drop}
+use Rattle.std.specs.Prelude.{◌≡◌, ℕ, ◌+◌, ◌-◌, ◌*◌, ◌/◌, ◌%◌, ◌^◌, ◌<◌, ◌≤◌, true, List, [], ◌∷◌, length, map, take, drop}
 use Rattle.std.specs.List.{All}
 use Rattle.nx_base.specs.ByteLists.{AreBytes}
 use Rattle.nx_ram.specs.declared.prog_image.ProgImage.{ProgImage}
@@ -8,7 +8,7 @@ use Rattle.nx_sv32.specs.Walk.{ram_start}
 use Rattle.nx_tables.specs.Maps.{Maps}
 use Rattle.nx_tables.specs.Roles.{Role, Free, is_of, Stands}
 use Rattle.nx_space.specs.World.{Group, Plan, World}
-use Rattle.nx_space.specs.Starts.{no_program, program_at, frames_for}
+use Rattle.nx_space.specs.Starts.{frames_for}
 use Rattle.nx_paged.specs.Tenants.{Tenant, are_distinct, are_once, frames_taken}
 use Rattle.nx_paged.specs.Spans.{Each, Shows, parts_from, span_bytes, spans_of}
 use Rattle.nx_paged.specs.Outside.{outside_of}

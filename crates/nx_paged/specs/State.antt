@@ -1,5 +1,4 @@
 -- A space as plain data.
-use Rattle.std.specs.Prelude.{ℕ}
 use Rattle.nx_space.specs.World.{World}
 use Rattle.nx_paged.specs.declared.paged.PagedSpace.{PagedSpace}
 use Rattle.nx_paged.specs.Paging.{Paging, paged_world}

@@ -1,5 +1,5 @@
 -- The groups that have a view, as a paged space keeps them.
-use Rattle.std.specs.Prelude.{ℕ, zero, suc, ◌+◌, ◌==◌, Bool, true, false, not, ◌&&◌, ◌||◌, if◌then◌else◌, List, [], ◌∷◌}
+use Rattle.std.specs.Prelude.{ℕ, suc, ◌+◌, ◌==◌, Bool, true, false, not, ◌&&◌, ◌||◌, if◌then◌else◌, List, [], ◌∷◌}
 use Rattle.nx_frames.specs.declared.frames.Taken.{Taken}
 use Rattle.nx_space.specs.Starts.{has_slot, frames_for}
 use Rattle.nx_space.specs.World.{Plan}

@@ -6,7 +6,7 @@ use Rattle.nx_base.specs.ByteLists.{get_bytes, put_bytes, from_le, to_le}
 use Rattle.nx_base.proofs.Puts.{get_bytes-put_bytes, get_bytes-put_bytes_other, length-to_le, from_le-to_le}
 use Rattle.nx_sv32.specs.Walk.{entry_at}
 use Rattle.nx_tables.specs.Maps.{Page, Maps, Encodes, root_entry, page_entry, pointer_to, leaf_of}
-use Rattle.nx_tables.specs.Roles.{Role, Free, Root, Table, Leaf, Owns, no_maps, with_table, with_page, IsZeroed}
+use Rattle.nx_tables.specs.Roles.{Role, Root, Table, Owns, no_maps, with_table, with_page, IsZeroed}
 use Rattle.nx_tables.proofs.EntryBits.{rights_small}
 use Rattle.nx_tables.proofs.Kept.{same_number, other_number, entry_same, byte_elsewhere}
 

@@ -1,13 +1,13 @@
 -- What is written outside of a group's tables leaves them standing.
-use Rattle.std.proofs.Common.{◌≡◌, ◌≢◌, ℕ, zero, suc, ◌+◌, ◌*◌, ◌<◌, ◌≤◌, ◌⊎◌, ◌==◌, Bool, true, false, Some, None, List, length, get_or, refl, sym, ap, ◌∙◌, subst, arith, ⊎_elim, inl, inr}
+use Rattle.std.proofs.Common.{◌≡◌, ◌≢◌, ℕ, zero, suc, ◌+◌, ◌*◌, ◌<◌, ◌≤◌, ◌==◌, Bool, true, false, List, length, get_or, refl, sym, ap, ◌∙◌, subst, arith, ⊎_elim, inl, inr}
 use Rattle.std.specs.Prelude.{if◌then◌else◌, slice_index}
 use Rattle.std.proofs.lemmas.Bool.{cases_lt}
 use Rattle.std.proofs.lemmas.Bool.Decides.{nat_tests}
 use Rattle.nx_base.specs.ByteLists.{get_bytes, put_bytes, from_le}
 use Rattle.nx_base.proofs.Puts.{get-put_bytes_other}
 use Rattle.nx_sv32.specs.Walk.{ram_start, entry_at}
-use Rattle.nx_tables.specs.Maps.{Page, Maps, Encodes, LieInside}
-use Rattle.nx_tables.specs.Roles.{Role, Free, Root, Table, Leaf, is_table, is_of, Owns, Stands, freed, with_role, SameFrames, SameRoles}
+use Rattle.nx_tables.specs.Maps.{Maps, LieInside}
+use Rattle.nx_tables.specs.Roles.{Role, Free, Root, Table, Leaf, is_table, is_of, Stands, freed, with_role, SameFrames, SameRoles}
 
 pub same_number : (a b : ℕ) → a ≡ b → (a == b) ≡ true
 same_number a b e = grind (arith, nat_tests)

@@ -1,12 +1,12 @@
 -- A group's tables grow by a root, a table or a page, each in a frame that nobody had.
-use Rattle.std.proofs.Common.{◌≡◌, ◌≢◌, ℕ, ◌+◌, ◌*◌, ◌<◌, ◌≤◌, ◌==◌, Bool, true, false, Some, None, List, length, refl, sym, ap, ◌∙◌, subst, arith, ⊎_elim}
+use Rattle.std.proofs.Common.{◌≡◌, ◌≢◌, ℕ, ◌+◌, ◌*◌, ◌<◌, ◌≤◌, ◌==◌, Some, None, List, length, sym, ap, ◌∙◌, subst, arith, ⊎_elim}
 use Rattle.std.specs.Prelude.{if◌then◌else◌}
 use Rattle.std.proofs.lemmas.Bool.{cases_eq}
 use Rattle.nx_base.specs.ByteLists.{put_bytes, to_le}
 use Rattle.nx_base.proofs.Puts.{length-put_bytes, length-to_le}
 use Rattle.nx_sv32.specs.Walk.{ram_start}
-use Rattle.nx_tables.specs.Maps.{Page, Maps, LieInside, pointer_to, leaf_of}
-use Rattle.nx_tables.specs.Roles.{Role, Free, Root, Table, Leaf, is_of, Owns, Stands, no_maps, with_table, with_page, with_role, IsZeroed, SameRoles}
+use Rattle.nx_tables.specs.Maps.{Page, Maps, pointer_to, leaf_of}
+use Rattle.nx_tables.specs.Roles.{Role, Free, Root, Table, Leaf, Owns, Stands, no_maps, with_table, with_page, with_role, IsZeroed, SameRoles}
 use Rattle.nx_tables.proofs.Kept.{same_number, other_number, root_table, table_table, table_is_of, leaf_is_of, free_is_none, given_role, new_role}
 use Rattle.nx_tables.proofs.EntriesPut.{some_number, some_page, nothing_mapped, table_added, page_added}
 

@@ -1,13 +1,13 @@
 -- What is written into the RAM shows in a window, or does not.
-use Rattle.std.proofs.Common.{◌≡◌, ◌≢◌, ℕ, zero, suc, ◌+◌, ◌-◌, ◌*◌, ◌/◌, ◌%◌, ◌<◌, ◌≤◌, ◌⊎◌, Bool, Some, List, [], ◌∷◌, length, get_or, refl, sym, ap, ◌∙◌, subst, arith, ⊎_elim, inl, inr, add-zero}
-use Rattle.std.specs.Prelude.{slice_set, true, false}
+use Rattle.std.proofs.Common.{◌≡◌, ◌≢◌, ℕ, zero, suc, ◌+◌, ◌-◌, ◌*◌, ◌/◌, ◌%◌, ◌<◌, ◌≤◌, ◌⊎◌, Bool, Some, List, [], ◌∷◌, length, get_or, refl, sym, ap, ◌∙◌, arith, ⊎_elim, inl, inr, add-zero}
+use Rattle.std.specs.Prelude.{slice_set}
 use Rattle.std.proofs.lemmas.List.{length-set, get_or-set_same, ext_get_or}
 use Rattle.std.proofs.lemmas.Bool.{cases_lt, cases_eq}
 use Rattle.nx_base.specs.ByteLists.{put_bytes}
 use Rattle.nx_base.specs.declared.access.Access.TheVariants.{Load}
 use Rattle.nx_base.proofs.Puts.{put_bytes-more, length-put_bytes, get-put_bytes_other}
 use Rattle.nx_sv32.specs.Walk.{ram_start, walk}
-use Rattle.nx_tables.specs.Maps.{Page, Maps, satp_of, translated}
+use Rattle.nx_tables.specs.Maps.{Maps, satp_of, translated}
 use Rattle.nx_tables.specs.Roles.{Role, Leaf, is_table, is_of, Stands, SameFrames}
 use Rattle.nx_tables.specs.Seen.{byte_by, seen, PageAt, IsMapped}
 use Rattle.nx_tables.proofs.Walked.{walk_mapped}

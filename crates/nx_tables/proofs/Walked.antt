@@ -1,9 +1,9 @@
 -- The walk gives what is mapped.
-use Rattle.std.proofs.Common.{◌≡◌, ℕ, ◌+◌, ◌*◌, ◌/◌, ◌%◌, ◌<◌, ◌≤◌, true, Option, Some, None, List, length, refl, sym, ap, ◌∙◌, arith}
+use Rattle.std.proofs.Common.{◌≡◌, ℕ, ◌+◌, ◌*◌, ◌/◌, ◌%◌, ◌<◌, true, Option, Some, None, List, length, refl, sym, ap, ◌∙◌, arith}
 use Rattle.std.specs.Prelude.{if◌then◌else◌, nat_le}
 use Rattle.std.proofs.lemmas.Bool.Decides.{nat_tests}
 use Rattle.nx_base.specs.declared.access.Access.{Access}
-use Rattle.nx_sv32.specs.Walk.{ram_start, table_place, last_entry, last_table, first_entry, first_table, entry_at, walk}
+use Rattle.nx_sv32.specs.Walk.{table_place, last_entry, last_table, first_entry, first_table, entry_at, walk}
 use Rattle.nx_tables.specs.Maps.{Page, Maps, Encodes, LieInside, page_of, satp_of, translated, root_entry, page_entry, table_by}
 use Rattle.nx_tables.specs.Roles.{Role, Stands}
 use Rattle.nx_tables.proofs.EntryBits.{frame_place, page_found, no_page_found, table_found, no_table_found, table_by_entry}

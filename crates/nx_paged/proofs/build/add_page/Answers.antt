@@ -1,10 +1,10 @@
-use Rattle.std.proofs.Common.{◌∙◌, ◌+◌, ◌*◌, ◌/◌, ◌<◌, [], ◌∷◌, length, sym, subst, arith}
+use Rattle.std.proofs.Common.{◌∙◌, ◌+◌, ◌/◌, ◌<◌, [], ◌∷◌, length, sym, subst, arith}
 use Rattle.std.proofs.Props.{props}
 use Rattle.std.proofs.Math.Logic.{∥∥₁_elim}
 use Rattle.nx_frames.specs.Stock.{frames_of}
 use Rattle.nx_frames.proofs.Chains.{length-chain}
 use Rattle.nx_paged.specs.Building.{Entry, Adds}
-use Rattle.nx_paged.proofs.Rooms.{less_room, Ready, ready, ready_inside, table_inside, table_known, adds_page}
+use Rattle.nx_paged.proofs.Rooms.{less_room, ready, ready_inside, table_inside, table_known, adds_page}
 use Rattle.nx_paged.proofs.build.add_page.Goals as goal
 
 pub add_table-used-requires-clause-room : goal.add_table-used-requires-clause-room

@@ -1,4 +1,4 @@
-use Rattle.std.proofs.Common.{◌∙◌, ◌+◌, ◌-◌, refl}
+use Rattle.std.proofs.Common.{◌+◌, ◌-◌, refl}
 use Rattle.std.proofs.Props.{props}
 use Rattle.std.proofs.Math.Logic.{∥∥₁_elim}
 use Rattle.nx_frames.specs.Stock.{frames_of}

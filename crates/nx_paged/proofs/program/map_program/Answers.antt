@@ -1,10 +1,10 @@
-use Rattle.std.proofs.Common.{◌≡◌, ◌≤◌, ◌+◌, ◌*◌, ◌∙◌, [], length, refl, sym, ap, subst, arith, List, ℕ}
+use Rattle.std.proofs.Common.{◌*◌, ◌∙◌, [], refl, ap, subst, arith}
 use Rattle.std.proofs.Props.{props}
 use Rattle.std.proofs.Math.Logic.{∥∥₁_elim}
 use Rattle.nx_frames.specs.Stock.{frames_of}
 use Rattle.nx_tables.specs.Maps.{satp_of}
 use Rattle.nx_space.specs.Starts.{pages_of}
-use Rattle.nx_paged.specs.Writing.{HasPlace, WritesAll}
+use Rattle.nx_paged.specs.Writing.{WritesAll}
 use Rattle.nx_paged.proofs.Roots.{Sized, site_of, first_built, stack_regions, stack_of, stack_room, data_room, text_room, all_built}
 use Rattle.nx_paged.proofs.Mapped.{text_place, data_place, program_mapped}
 use Rattle.nx_paged.proofs.program.map_program.Goals as goal

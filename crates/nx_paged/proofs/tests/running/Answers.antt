@@ -1,4 +1,4 @@
-use Rattle.std.proofs.Common.{◌≡◌, ◌∙◌, true, ap}
+use Rattle.std.proofs.Common.{◌∙◌, true, ap}
 use Rattle.nx_space.specs.World.{has_view}
 use Rattle.nx_space.proofs.Joins.{started_has_view}
 use Rattle.nx_paged.proofs.tests.running.Goals as goal

@@ -1,5 +1,4 @@
 use Rattle.std.proofs.Common.{◌∙◌, ◌&&◌, ◌+◌, ◌-◌, not, ap, sym}
-use Rattle.std.specs.Option.{is_some}
 use Rattle.nx_sv32.specs.Walk.{walk}
 use Rattle.nx_paged.specs.Walks.{all_walked}
 use Rattle.nx_paged.proofs.Goods.{walked_more, walked_none, fault_is}

@@ -1,7 +1,6 @@
-use Rattle.std.proofs.Common.{◌-◌, subst, sym, arith}
+use Rattle.std.proofs.Common.{subst, sym, arith}
 use Rattle.std.proofs.Props.{props}
 use Rattle.std.proofs.Math.Logic.{∥∥₁_elim}
-use Rattle.nx_sv32.specs.Walk.{ram_start}
 use Rattle.nx_paged.specs.Writing.{WritesAll}
 use Rattle.nx_paged.proofs.Written.{no_fault, page_in, page_put}
 use Rattle.nx_paged.proofs.write.write_page.Goals as goal

@@ -1,14 +1,13 @@
 use Rattle.std.proofs.Common.{◌≡◌, ◌∙◌, ◌<◌, ◌++◌, true, List, get_or, ap, subst, sym, arith}
 use Rattle.std.specs.List.{remove}
-use Rattle.std.proofs.lemmas.List.{get_or_read}
 use Rattle.nx_frames.specs.Stock.{Holds, KeepsOthers, frames_of}
 use Rattle.nx_space.specs.Starts.{finished, but_outside}
 use Rattle.nx_space.specs.World.{World}
 use Rattle.nx_paged.specs.Tenants.{Tenant, has_tenant, root_of, place_of}
-use Rattle.nx_paged.specs.Paging.{Paging, paged_plan, paged_world, IsPlaced, IsPaged}
+use Rattle.nx_paged.specs.Paging.{paged_plan, paged_world, IsPlaced, IsPaged}
 use Rattle.nx_paged.specs.Finding.{tenant_view}
 use Rattle.nx_paged.specs.State.{state_of}
-use Rattle.nx_paged.proofs.Ends.{place_inside, root_low, without_tenant, ended_holds, ended_placed, ended_count, ended_paged, ended_world}
+use Rattle.nx_paged.proofs.Ends.{place_inside, root_low, ended_holds, ended_placed, ended_count, ended_paged, ended_world}
 use Rattle.nx_paged.proofs.paged.PagedSpace.finish.Goals as goal
 
 pub remove-requires : goal.remove-requires

@@ -1,4 +1,4 @@
-use Rattle.std.proofs.Common.{◌∙◌, arith}
+use Rattle.std.proofs.Common.{arith}
 use Rattle.nx_paged.specs.State.{state_of}
 use Rattle.nx_paged.specs.Paging.{paged_plan}
 use Rattle.nx_paged.specs.Lawful.{needs_taken}

@@ -1,14 +1,12 @@
-use Rattle.std.proofs.Common.{◌∙◌, ◌<◌, ap, sym, subst, arith, Ok}
+use Rattle.std.proofs.Common.{◌∙◌, ap, sym, subst, arith, Ok}
 use Rattle.nx_base.specs.declared.access.Access.TheVariants.{Store}
-use Rattle.nx_base.specs.Views.{store_bytes}
 use Rattle.nx_space.specs.World.{view_in}
 use Rattle.nx_space.specs.Lawful.{OnlyEntered}
-use Rattle.nx_space.proofs.Stores.{only_refl}
 use Rattle.nx_paged.specs.Paging.{IsPlaced, IsPaged, paged_world}
 use Rattle.nx_paged.proofs.Saves.{with_ram}
-use Rattle.nx_paged.proofs.Accesses.{InPage, in_page, one_byte, writes_store}
+use Rattle.nx_paged.proofs.Accesses.{InPage, one_byte, writes_store}
 use Rattle.nx_paged.specs.State.{state_of}
-use Rattle.nx_paged.proofs.Answers.{Asks, inside_of, store_ok, store_only, store_placed, store_paged, store_err, good_no_fault}
+use Rattle.nx_paged.proofs.Answers.{Asks, inside_of, store_ok, store_only, store_placed, store_paged, good_no_fault}
 use Rattle.nx_paged.proofs.paged.PagedSpace.poke.Goals as goal
 
 pub overflow_sub-to : goal.overflow_sub-to

@@ -1,15 +1,15 @@
-use Rattle.std.proofs.Common.{◌≡◌, ◌∙◌, ◌+◌, ◌*◌, ◌<◌, ◌++◌, [], ◌∷◌, false, List, length, ap, subst, sym, refl, arith}
+use Rattle.std.proofs.Common.{◌≡◌, ◌∙◌, ◌+◌, ◌<◌, false, List, length, ap, subst, sym, arith}
 use Rattle.std.specs.Prelude.{vec_len, vec_capacity}
 use Rattle.std.proofs.lemmas.List.{length-map, get_or_read}
 use Rattle.nx_frames.specs.Stock.{Takes}
 use Rattle.nx_space.specs.World.{World}
-use Rattle.nx_space.specs.Starts.{no_program, regs_with, start_regs, start_need, free, started, but_outside}
+use Rattle.nx_space.specs.Starts.{no_program, regs_with, start_regs, start_need, started, but_outside}
 use Rattle.nx_paged.specs.Tenants.{Tenant, has_tenant, root_of}
-use Rattle.nx_paged.specs.Paging.{Paging, paged_plan, paged_group, paged_world, IsPlaced, IsPaged}
+use Rattle.nx_paged.specs.Paging.{paged_plan, paged_group, paged_world, IsPlaced, IsPaged}
 use Rattle.nx_paged.specs.Finding.{tenant_view}
 use Rattle.nx_paged.specs.State.{state_of}
 use Rattle.nx_paged.proofs.Ends.{root_low}
-use Rattle.nx_paged.proofs.Begun.{Starts, program_in, low_of, newcomer, with_newcomer, begun_placed}
+use Rattle.nx_paged.proofs.Begun.{Starts, program_in, low_of, newcomer, begun_placed}
 use Rattle.nx_paged.proofs.Started.{free_is, need_same, start_ready, start_paged, start_world, start_enough, pushed}
 use Rattle.nx_paged.proofs.paged.PagedSpace.start.Goals as goal
 
