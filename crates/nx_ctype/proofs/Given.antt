@@ -1,5 +1,5 @@
 -- What follows from an answer once more is to be found after it.
-use Rattle.std.proofs.Common.{◌≡◌, refl}
+use Rattle.std.proofs.Common.{refl}
 use Rattle.std.specs.Prelude.{Result, Ok, Err}
 use Rattle.nx_ctok.specs.declared.fault.CFault.{CFault}
 use Rattle.nx_ctok.specs.declared.fault.CFault.TheVariants as fault

@@ -1,5 +1,5 @@
 -- Types, and what a name stands for.
-use Rattle.std.specs.Prelude.{◌≡◌, ℕ, ◌*◌, ◌%◌, ◌^◌, Bool, true, false, List, Option, None, Some, Result, Ok, Err, is_some, if◌then◌else◌}
+use Rattle.std.specs.Prelude.{ℕ, ◌%◌, ◌^◌, Bool, true, false, List, Option, None, Some, Result, Ok, Err, is_some, if◌then◌else◌}
 use Rattle.std.specs.Map.{lookup}
 use Rattle.std.specs.Option.{option_or}
 use Rattle.std.specs.Str.{bytes_eq}
@@ -10,7 +10,7 @@ use Rattle.nx_ctree.specs.declared.checked.Element.TheVariants as element
 use Rattle.nx_ctree.specs.declared.checked.Scalar.{Scalar}
 use Rattle.nx_ctree.specs.declared.checked.Scalar.TheVariants as scalar
 use Rattle.nx_ctree.specs.declared.checked.CheckedExpr.TheVariants as expr
-use Rattle.nx_ctree.specs.Frames.{size_of, bytes_of}
+use Rattle.nx_ctree.specs.Frames.{bytes_of}
 use Rattle.nx_ctype.specs.declared.types.CType.{CType}
 use Rattle.nx_ctype.specs.declared.types.CType.TheVariants as type
 use Rattle.nx_ctype.specs.declared.types.Held.{Held}

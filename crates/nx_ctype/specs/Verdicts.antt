@@ -16,7 +16,6 @@ use Rattle.nx_ctree.specs.declared.expression.ExprKind.TheOpen as form
 use Rattle.nx_ctree.specs.declared.checked.Element.TheVariants as element
 use Rattle.nx_ctree.specs.declared.checked.StepValue.TheVariants as step
 use Rattle.nx_ctree.specs.declared.checked.CheckedExpr.TheVariants as expr
-use Rattle.nx_ctype.specs.declared.types.CType.{CType}
 use Rattle.nx_ctype.specs.declared.types.CType.TheVariants as type
 use Rattle.nx_ctype.specs.declared.types.Function.{Function}
 use Rattle.nx_ctype.specs.declared.types.Typed.{Typed}
