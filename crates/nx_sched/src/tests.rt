@@ -44,6 +44,7 @@ fn the_greatest_priority_that_became_ready_first_runs(rt: HostRuntime) -> Result
 }
 
 #[test]
+#[tactic(auto, unfolding(nx_ksys::specs::Threads::block, nx_ksys::specs::Threads::wake, nx_ksys::specs::Threads::with_error))]
 fn waiters_are_served_by_priority_and_wake_after_their_equals(rt: HostRuntime) -> Result<(), Fail> {
     let mut threads = Threads::new(rt.alloc(), 4)?;
     let asked = Asked {
