@@ -1,7 +1,7 @@
 ghost use Rattle.std.specs.Prelude.{◌≡◌, ◌<◌, ◌≤◌, length, IfOk, IfSome, IsTrue, ◌&&◌, nat_lt, suc};
 ghost use Rattle.std.specs.Option.{option_map};
 ghost use Rattle.nx_grammar.specs.Reading.{expect as expected};
-ghost use Rattle.nx_grammar.specs.Chains.{behind, closed as closed_at};
+ghost use Rattle.nx_grammar.specs.Chains.{after_first, closed as closed_at};
 ghost use Rattle.nx_cexpr.specs.Signs.{is_sign as has_sign};
 ghost use Rattle.nx_cexpr.specs.Reading.{has_node as has_node_at};
 ghost use Rattle.nx_cexpr.specs.Answers.{Gives};
@@ -65,7 +65,7 @@ pub fn expect<'a>(
 
 /// The tokens after one of this sign, where it stands next.
 pub(crate) fn after<'a>(tokens: &'a [Signed<'a>], sign: Sign) -> Option<&'a [Signed<'a>]>
-    ensures gives { option_map (λ x. x.now) result ≡ behind (has_sign sign) tokens.now }
+    ensures gives { option_map (λ x. x.now) result ≡ after_first (has_sign sign) tokens.now }
     ensures shorter { IfSome result (λ x. length x.now < length tokens.now) }
 {
     match tokens {

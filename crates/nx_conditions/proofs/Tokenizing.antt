@@ -31,12 +31,12 @@ invert bytes rest t ts e (More text rest' t' more f x) =
     (more, ap (λ u. u ∷ more) s.0, subst (λ r. AreTokens (after_blanks r) more) s.1 x)
 
 -- A token more.
-pub reached_more : (bytes : List ℕ) (found : List Token) (rest behind : List ℕ) (t : Token) → token_at rest ≡ Some (t, behind) → Reached bytes found rest → Reached bytes (found ++ t ∷ []) (after_blanks behind)
-reached_more bytes found rest behind t e r = record {
-  on = λ ts x. subst (λ us. AreTokensOf bytes us) (sym (append_assoc found (t ∷ []) ts)) (r.on (t ∷ ts) (More rest behind t ts e x));
+pub reached_more : (bytes : List ℕ) (found : List Token) (rest following : List ℕ) (t : Token) → token_at rest ≡ Some (t, following) → Reached bytes found rest → Reached bytes (found ++ t ∷ []) (after_blanks following)
+reached_more bytes found rest following t e r = record {
+  on = λ ts x. subst (λ us. AreTokensOf bytes us) (sym (append_assoc found (t ∷ []) ts)) (r.on (t ∷ ts) (More rest following t ts e x));
   back = λ ts x.
       let b = r.back ts x in
-      let i = invert rest behind t b.0 e b.2 in
+      let i = invert rest following t b.0 e b.2 in
       (i.0, b.1 ∙ ap (λ us. found ++ us) i.1 ∙ sym (append_assoc found (t ∷ []) i.0), i.2);
 }
 
@@ -65,8 +65,8 @@ pub reached_bad : (bytes : List ℕ) (found : List Token) (rest : List ℕ) (ts 
 reached_bad bytes found rest ts e n r x = let b = r.back ts x in none_there rest b.0 e n b.2
 
 -- A token more, as the code has it.
-pub reached_next : (bytes : List ℕ) (found more : List Token) (rest behind after : List ℕ) (t : Token) → token_at rest ≡ Some (t, behind) → more ≡ found ++ t ∷ [] → after ≡ after_blanks behind → Reached bytes found rest → Reached bytes more after
-reached_next bytes found more rest behind after t e m a r = subst (λ x. Reached bytes x after) (sym m) (subst (λ x. Reached bytes (found ++ t ∷ []) x) (sym a) (reached_more bytes found rest behind t e r))
+pub reached_next : (bytes : List ℕ) (found more : List Token) (rest following after : List ℕ) (t : Token) → token_at rest ≡ Some (t, following) → more ≡ found ++ t ∷ [] → after ≡ after_blanks following → Reached bytes found rest → Reached bytes more after
+reached_next bytes found more rest following after t e m a r = subst (λ x. Reached bytes x after) (sym m) (subst (λ x. Reached bytes (found ++ t ∷ []) x) (sym a) (reached_more bytes found rest following t e r))
 
 -- Where the token at the front is bad, so is the text.
 pub reached_stop : (bytes : List ℕ) (found : List Token) (rest : List ℕ) (e : ConditionStop) → IsNotFound e (token_at rest) → (rest ≡ [] → ⊥) → Reached bytes found rest → (ts : List Token) → AreTokensOf bytes ts → IsGiven {X = List Token} (Err e) ts

@@ -1,7 +1,7 @@
 ghost use Rattle.std.specs.Prelude.{◌≡◌, ◌<◌, ◌≤◌, length, IfOk, IfSome};
 ghost use Rattle.std.specs.Option.{option_map};
 ghost use Rattle.nx_grammar.specs.Reading.{dispatch, expect, loop};
-ghost use Rattle.nx_grammar.specs.Chains.{behind, closed};
+ghost use Rattle.nx_grammar.specs.Chains.{after_first, closed};
 ghost use Rattle.nx_conditions.specs.Parsing.{
   is_open,
   is_close,
@@ -229,7 +229,7 @@ fn comparison(
 }
 
 fn after_and(tokens: &[Token]) -> Option<&[Token]>
-    ensures gives { option_map (λ x. x.now) result ≡ behind is_and tokens.now }
+    ensures gives { option_map (λ x. x.now) result ≡ after_first is_and tokens.now }
     ensures shorter { IfSome result (λ x. length x.now < length tokens.now) }
 {
     match tokens {
@@ -239,7 +239,7 @@ fn after_and(tokens: &[Token]) -> Option<&[Token]>
 }
 
 fn after_or(tokens: &[Token]) -> Option<&[Token]>
-    ensures gives { option_map (λ x. x.now) result ≡ behind is_or tokens.now }
+    ensures gives { option_map (λ x. x.now) result ≡ after_first is_or tokens.now }
     ensures shorter { IfSome result (λ x. length x.now < length tokens.now) }
 {
     match tokens {

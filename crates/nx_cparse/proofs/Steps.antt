@@ -4,7 +4,7 @@ use Rattle.std.specs.Prelude.{Ok, Err, Some, None}
 use Rattle.nx_grammar.specs.declared.kind.Kind.TheVariants.{Syntax}
 use Rattle.nx_grammar.specs.Reading.{Out, Reading, bind}
 use Rattle.nx_grammar.specs.Lawful.{Law}
-use Rattle.nx_grammar.specs.Chains.{behind, closed}
+use Rattle.nx_grammar.specs.Chains.{after_first, closed}
 use Rattle.nx_grammar.proofs.Chains.{chain_on, chain_closed}
 use Rattle.nx_ctree.specs.declared.sign.Sign.TheVariants as sign
 use Rattle.nx_ctree.specs.declared.sign.Signed.{Signed}
@@ -29,14 +29,14 @@ commas_on part ts xs rest h = sym (commas_first part ts ∙ ap (λ o. bind o (ot
 
 module _ {A : Type 0} (part : Reading Signed A) (F I : Signed → Type 0) (law : Law part F I) where
   -- After a comma it goes on with a part.
-  pub others_step : (xs : List A) (ts us : List Signed) → behind (is_sign sign.Comma) ts ≡ Some us → others part xs ts ≡ bind (next part xs us) (others part)
+  pub others_step : (xs : List A) (ts us : List Signed) → after_first (is_sign sign.Comma) ts ≡ Some us → others part xs ts ≡ bind (next part xs us) (others part)
   others_step xs ts us e = chain_on (is_sign sign.Comma) (next part) (next_short part F I law) xs ts us e
 
-  pub others_more : (xs ys : List A) (ts us vs : List Signed) → behind (is_sign sign.Comma) ts ≡ Some us → next part xs us ≡ Ok (ys, vs) → others part ys vs ≡ others part xs ts
+  pub others_more : (xs ys : List A) (ts us vs : List Signed) → after_first (is_sign sign.Comma) ts ≡ Some us → next part xs us ≡ Ok (ys, vs) → others part ys vs ≡ others part xs ts
   others_more xs ys ts us vs e h = sym (others_step xs ts us e ∙ ap (λ o. bind o (others part)) h)
 
   -- Elsewhere it is over.
-  pub others_over : (xs : List A) (ts : List Signed) → behind (is_sign sign.Comma) ts ≡ None → others part xs ts ≡ closed xs ts
+  pub others_over : (xs : List A) (ts : List Signed) → after_first (is_sign sign.Comma) ts ≡ None → others part xs ts ≡ closed xs ts
   others_over xs ts e = chain_closed (is_sign sign.Comma) (next part) (next_short part F I law) xs ts e
 
 -- A fault of a step is one of the whole.

@@ -1,7 +1,7 @@
 ghost use Rattle.std.specs.Prelude.{◌≡◌, ◌<◌, ◌≤◌, length, IfOk, IfSome};
 ghost use Rattle.std.specs.Option.{option_map};
 ghost use Rattle.nx_grammar.specs.Reading.{dispatch};
-ghost use Rattle.nx_grammar.specs.Chains.{behind};
+ghost use Rattle.nx_grammar.specs.Chains.{after_first};
 ghost use Rattle.nx_ctree.specs.declared.sign.Sign.TheVariants.{Comma};
 ghost use Rattle.nx_ctree.specs.Programs.{first_line as line_of};
 ghost use Rattle.nx_cexpr.specs.Answers.{Gives};
@@ -24,7 +24,7 @@ pub(crate) fn first_line(tokens: &[Signed]) -> u32
 
 /// What stands after a comma.
 pub(crate) fn after_comma<'a>(tokens: &'a [Signed<'a>]) -> Option<&'a [Signed<'a>]>
-    ensures gives { option_map (λ x. x.now) result ≡ behind (is_sign Comma) tokens.now }
+    ensures gives { option_map (λ x. x.now) result ≡ after_first (is_sign Comma) tokens.now }
     ensures shorter { IfSome result (λ x. length x.now < length tokens.now) }
 {
     match tokens {

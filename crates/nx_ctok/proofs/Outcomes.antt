@@ -22,7 +22,7 @@ use Rattle.nx_ctok.specs.Longest.{word_at}
 use Rattle.nx_ctok.specs.Comments.{newlines, line_at, Comment, Absent, Open, Closed, comment_at, gap, after_blanks, all_steps, after_one_ignored, ends_line}
 use Rattle.nx_ctok.specs.Directives.{is_too_wide, Found, then_, name_at, constant_of, constant_at, value_at, ended, definition_at, Piece, Space, Spelled, Define, Wrong, defined, dropped, directive}
 use Rattle.nx_ctok.specs.Predefined.{number_text, predefined_of}
-use Rattle.nx_ctok.specs.Tokens.{checked, is_hash, uncommented, commented, piece_at, Definitions, predefined, at_first, with_definition, minus_tokens, replaced, meaning, ahead, Gives, End, Refused, Skipped, Taken, Defined, Reads, IsSpelled, AreEnded, Last, Next}
+use Rattle.nx_ctok.specs.Tokens.{checked, is_hash, uncommented, commented, piece_at, Definitions, predefined, at_first, with_definition, minus_tokens, replaced, meaning, ahead, Tokenizes, End, Refused, Skipped, Taken, Defined, Reads, IsSpelled, AreEnded, Last, Next}
 use Rattle.nx_ctok.specs.Answers.{IsAnswer, IsGiven}
 use Rattle.nx_ctok.proofs.Words.{word_is_spelled}
 
@@ -44,7 +44,7 @@ unfolding piece_at
 nothing_there fresh = refl
 
 -- The rest of a text gives one outcome.
-pub one_outcome : (text : List ℕ) (fresh : Bool) (values : Definitions) (bytes : List ℕ) (o p : Result (List Token) CFault) → Gives text fresh values bytes o → Gives text fresh values bytes p → o ≡ p
+pub one_outcome : (text : List ℕ) (fresh : Bool) (values : Definitions) (bytes : List ℕ) (o p : Result (List Token) CFault) → Tokenizes text fresh values bytes o → Tokenizes text fresh values bytes p → o ≡ p
 one_outcome text fresh values bytes o p (End f v) (End g w) = refl
 one_outcome text fresh values bytes o p (End f v) (Skipped g w bs rest out e x) = let n = nothing_there f in absurd (cc)
 one_outcome text fresh values bytes o p (End f v) (Taken g w bs u out e x) = let n = nothing_there f in absurd (cc)
@@ -57,7 +57,7 @@ one_outcome text fresh values bytes o p (Skipped f v bs rest out e x) (End g w) 
 one_outcome text fresh values bytes o p (Skipped f v bs rest out e x) (Refused g w c cs l h) = absurd (cc)
 one_outcome text fresh values bytes o p (Skipped f v bs rest out e x) (Skipped g w cs rest' out' h y) =
     let s = space_same rest rest' (piece_at f bs) e h in
-    one_outcome text (f || nat_lt (newlines rest') (newlines bs)) v rest' out out' (subst (λ r. Gives text (f || nat_lt (newlines r) (newlines bs)) v r out) s x) y
+    one_outcome text (f || nat_lt (newlines rest') (newlines bs)) v rest' out out' (subst (λ r. Tokenizes text (f || nat_lt (newlines r) (newlines bs)) v r out) s x) y
 one_outcome text fresh values bytes o p (Skipped f v bs rest out e x) (Taken g w cs u out' h y) = absurd (cc)
 one_outcome text fresh values bytes o p (Skipped f v bs rest out e x) (Defined g w cs rest' d out' h y) = absurd (cc)
 one_outcome text fresh values bytes o p (Taken f v bs u out e x) (End g w) = let n = nothing_there f in absurd (cc)
@@ -65,7 +65,7 @@ one_outcome text fresh values bytes o p (Taken f v bs u out e x) (Refused g w c 
 one_outcome text fresh values bytes o p (Taken f v bs u out e x) (Skipped g w cs rest out' h y) = absurd (cc)
 one_outcome text fresh values bytes o p (Taken f v bs u out e x) (Taken g w cs u' out' h y) =
     let s = word_same u u' (piece_at f bs) e h in
-    let q = one_outcome text false v u'.rest out out' (subst (λ z. Gives text false v z.rest out) s x) y in
+    let q = one_outcome text false v u'.rest out out' (subst (λ z. Tokenizes text false v z.rest out) s x) y in
     rw (s, q) refl
 one_outcome text fresh values bytes o p (Taken f v bs u out e x) (Defined g w cs rest d out' h y) = absurd (cc)
 one_outcome text fresh values bytes o p (Defined f v bs rest d out e x) (End g w) = let n = nothing_there f in absurd (cc)
@@ -74,7 +74,7 @@ one_outcome text fresh values bytes o p (Defined f v bs rest d out e x) (Skipped
 one_outcome text fresh values bytes o p (Defined f v bs rest d out e x) (Taken g w cs u out' h y) = absurd (cc)
 one_outcome text fresh values bytes o p (Defined f v bs rest d out e x) (Defined g w cs rest' d' out' h y) =
     let s = definition_same d d' rest rest' (piece_at f bs) e h in
-    one_outcome text false (with_definition v d') rest' out out' (subst (λ z. Gives text false (with_definition v z) rest' out) s.0 (subst (λ r. Gives text false (with_definition v d) r out) s.1 x)) y
+    one_outcome text false (with_definition v d') rest' out out' (subst (λ z. Tokenizes text false (with_definition v z) rest' out) s.0 (subst (λ r. Tokenizes text false (with_definition v d) r out) s.1 x)) y
 
 -- So what was answered is all that a text gives.
 pub only_answer : (text : List ℕ) (r : Result (Vec Token) CFault) → IsAnswer text r → (out : Result (List Token) CFault) → Reads text out → IsGiven r out
@@ -289,7 +289,7 @@ meaning_are values kind.Text text a v e = cc
 meaning_are values kind.Mark text a v e = cc
 meaning_are values kind.End text a v e = cc
 
-gives_ended : (text : List ℕ) (fresh : Bool) (values : Definitions) (bytes : List ℕ) (out : Result (List Token) CFault) → AreValues values → Gives text fresh values bytes out → Ended out
+gives_ended : (text : List ℕ) (fresh : Bool) (values : Definitions) (bytes : List ℕ) (out : Result (List Token) CFault) → AreValues values → Tokenizes text fresh values bytes out → Ended out
 gives_ended text fresh values bytes out a (End f v) = Last (line_at text [])
 gives_ended text fresh values bytes out a (Refused f v b bs k e) = tt
 gives_ended text fresh values bytes out a (Skipped f v bs rest o e x) = gives_ended text (f || nat_lt (newlines rest) (newlines bs)) v rest o a x

@@ -12,9 +12,9 @@ use Rattle.nx_ctok.specs.declared.value.Definition.{Definition}
 use Rattle.nx_ctok.specs.declared.reader.Reader.{Reader}
 use Rattle.nx_ctok.specs.Comments.{newlines, line_at}
 use Rattle.nx_ctok.specs.Directives.{Space, Spelled, Define, Wrong}
-use Rattle.nx_ctok.specs.Tokens.{Definitions, with_definition, meaning, replaced, ahead, piece_at, Gives, End, Refused, Skipped, Taken, Defined, Reads}
+use Rattle.nx_ctok.specs.Tokens.{Definitions, with_definition, meaning, replaced, ahead, piece_at, Tokenizes, End, Refused, Skipped, Taken, Defined, Reads}
 use Rattle.nx_ctok.specs.Views.{IsLeft, values_in}
-use Rattle.nx_ctok.specs.Reading.{GivesFrom, Follows, Reached}
+use Rattle.nx_ctok.specs.Reading.{TokenizesFrom, Follows, Reached}
 use Rattle.nx_ctok.proofs.Definitions.{values_none}
 
 -- No tokens before others.
@@ -28,9 +28,9 @@ ahead_more xs ys (Err e) = refl
 
 -- What is refused at the start of a rest.
 pub refused : (text rest : List ℕ) (fresh : Bool) (values : Definitions) (line : ℕ) (k : CKind) → 0 < length rest → piece_at fresh rest ≡ Wrong k → line ≡ line_at text rest →
-    Gives text fresh values rest (Err (fault.Text line k))
+    Tokenizes text fresh values rest (Err (fault.Text line k))
 refused text [] fresh values line k m e l = absurd (omega arith)
-refused text (b ∷ bs) fresh values line k m e l = subst (λ n. Gives text fresh values (b ∷ bs) (Err (fault.Text n k))) (sym l) (Refused fresh values b bs k e)
+refused text (b ∷ bs) fresh values line k m e l = subst (λ n. Tokenizes text fresh values (b ∷ bs) (Err (fault.Text n k))) (sym l) (Refused fresh values b bs k e)
 
 -- A newline was passed where fewer are left.
 passed : (n a b : ℕ) → b ≡ n + a → nat_lt 0 n ≡ nat_lt a b
@@ -54,9 +54,9 @@ follow_space old new rest after n e left is = subst (λ r. Follows old rest r af
   line = omega (arith, left.lines);
   later = omega arith;
   less = left.less;
-  gives = λ text l out x. subst (λ o. Gives text old.fresh (values_in old.table) rest o) (ahead_none out)
+  gives = λ text l out x. subst (λ o. Tokenizes text old.fresh (values_in old.table) rest o) (ahead_none out)
       (Skipped old.fresh (values_in old.table) rest after out e
-      (subst (λ t. Gives text (old.fresh || t) (values_in old.table) after out) (passed n (newlines after) (newlines rest) left.lines) x));
+      (subst (λ t. Tokenizes text (old.fresh || t) (values_in old.table) after out) (passed n (newlines after) (newlines rest) left.lines) x));
 })
 
 pub follow_word : (old new : Reader) (rest : List ℕ) (w : Word) → piece_at old.fresh rest ≡ Spelled w → IsLeft w.rest 0 rest →
@@ -68,9 +68,9 @@ follow_word old new rest w e left f t l n = record {
   line = omega (arith, left.lines, l);
   later = omega (arith, l);
   less = left.less;
-  gives = λ text h out x. subst (λ m. Gives text old.fresh (values_in old.table) rest (ahead (replaced m w.kind w.text (meaning (values_in old.table) w.kind w.text)) out)) (sym h)
+  gives = λ text h out x. subst (λ m. Tokenizes text old.fresh (values_in old.table) rest (ahead (replaced m w.kind w.text (meaning (values_in old.table) w.kind w.text)) out)) (sym h)
       (Taken old.fresh (values_in old.table) rest w out e
-      (subst (λ t. Gives text false (values_in t) w.rest out) t (subst (λ q. Gives text q (values_in new.table) w.rest out) n x)));
+      (subst (λ t. Tokenizes text false (values_in t) w.rest out) t (subst (λ q. Tokenizes text q (values_in new.table) w.rest out) n x)));
 }
 
 pub follow_definition : (old new : Reader) (rest after : List ℕ) (d : Definition) → piece_at old.fresh rest ≡ Define d after → IsLeft after 0 rest →
@@ -81,9 +81,9 @@ follow_definition old new rest after d e left f t l n = record {
   line = omega (arith, left.lines, l);
   later = omega (arith, l);
   less = left.less;
-  gives = λ text h out x. subst (λ o. Gives text old.fresh (values_in old.table) rest o) (ahead_none out)
+  gives = λ text h out x. subst (λ o. Tokenizes text old.fresh (values_in old.table) rest o) (ahead_none out)
       (Defined old.fresh (values_in old.table) rest after d out e
-      (subst (λ v. Gives text false v after out) t (subst (λ q. Gives text q (values_in new.table) after out) n x)));
+      (subst (λ v. Tokenizes text false v after out) t (subst (λ q. Tokenizes text q (values_in new.table) after out) n x)));
 }
 
 -- A place's line, by the newlines after it.
@@ -95,7 +95,7 @@ reached_first text r f t l n = record {
   first = omega (arith, l);
   line = ap (λ m. m + newlines text) l;
   gives = λ out x. subst (λ ts. Reads text (ahead ts out)) (sym f) (subst (λ o. Reads text o) (ahead_none out)
-      (subst (λ v. Gives text true v text out) (ap values_in t ∙ values_none) (subst (λ q. Gives text q (values_in r.table) text out) n x)));
+      (subst (λ v. Tokenizes text true v text out) (ap values_in t ∙ values_none) (subst (λ q. Tokenizes text q (values_in r.table) text out) n x)));
 }
 
 pub reached_next : (text : List ℕ) (old new : Reader) (rest after : List ℕ) → Reached text old rest → Follows old rest new after → Reached text new after
@@ -111,14 +111,14 @@ pub reached_end : (text : List ℕ) (r : Reader) (rest : List ℕ) → rest ≡ 
     Reads text (Ok (r.found.items ++ record { kind = kind.End; text = rest; line = r.line } ∷ []))
 reached_end text r rest e x =
     let l : r.line ≡ line_at text rest = line_there text rest r.line x.first x.line in
-    let at : (bs : List ℕ) → bs ≡ [] → GivesFrom text r bs (Ok (record { kind = kind.End; text = bs; line = line_at text bs } ∷ [])) =
-    λ bs q. subst (λ y. GivesFrom text r y (Ok (record { kind = kind.End; text = y; line = line_at text y } ∷ []))) (sym q) (End r.fresh (values_in r.table)) in
+    let at : (bs : List ℕ) → bs ≡ [] → TokenizesFrom text r bs (Ok (record { kind = kind.End; text = bs; line = line_at text bs } ∷ [])) =
+    λ bs q. subst (λ y. TokenizesFrom text r y (Ok (record { kind = kind.End; text = y; line = line_at text y } ∷ []))) (sym q) (End r.fresh (values_in r.table)) in
     x.gives (Ok (record { kind = kind.End; text = rest; line = r.line } ∷ []))
-    (subst (λ n. GivesFrom text r rest (Ok (record { kind = kind.End; text = rest; line = n } ∷ []))) (sym l) (at rest e))
+    (subst (λ n. TokenizesFrom text r rest (Ok (record { kind = kind.End; text = rest; line = n } ∷ []))) (sym l) (at rest e))
 
 -- Where the rest is refused, the text is.
 pub reached_fault : (text : List ℕ) (r : Reader) (rest : List ℕ) (line : ℕ) (k : CKind) → Reached text r rest →
-    ((t : List ℕ) → r.line ≡ line_at t rest → GivesFrom t r rest (Err (fault.Text line k))) → Reads text (Err (fault.Text line k))
+    ((t : List ℕ) → r.line ≡ line_at t rest → TokenizesFrom t r rest (Err (fault.Text line k))) → Reads text (Err (fault.Text line k))
 reached_fault text r rest line k x f = x.gives (Err (fault.Text line k)) (f text (line_there text rest r.line x.first x.line))
 
 -- A text has no more newlines than bytes.

@@ -5,12 +5,12 @@ use Rattle.nx_ctok.specs.declared.fault.CFault.TheVariants as fault
 use Rattle.nx_ctok.specs.declared.token.Token.{Token}
 use Rattle.nx_ctok.specs.declared.reader.Reader.{Reader}
 use Rattle.nx_ctok.specs.Comments.{newlines, line_at}
-use Rattle.nx_ctok.specs.Tokens.{Gives, Reads, ahead}
+use Rattle.nx_ctok.specs.Tokens.{Tokenizes, Reads, ahead}
 use Rattle.nx_ctok.specs.Views.{values_in}
 
 -- What the rest of a text gives from here on.
-abbrev pub GivesFrom : List ℕ → Reader → List ℕ → Result (List Token) CFault → Type 0
-GivesFrom text r rest out = Gives text r.fresh (values_in r.table) rest out
+abbrev pub TokenizesFrom : List ℕ → Reader → List ℕ → Result (List Token) CFault → Type 0
+TokenizesFrom text r rest out = Tokenizes text r.fresh (values_in r.table) rest out
 
 -- From one place to the next: what the text gives from the next place on, it gives after these tokens from the first.
 pub record Follows (old : Reader) (rest : List ℕ) (new : Reader) (after : List ℕ) : Type 0 where
@@ -19,15 +19,15 @@ pub record Follows (old : Reader) (rest : List ℕ) (new : Reader) (after : List
   pub line : new.line + newlines after ≡ old.line + newlines rest
   pub later : old.line ≤ new.line
   pub less : length after < length rest
-  pub gives : (text : List ℕ) → old.line ≡ line_at text rest → (out : Result (List Token) CFault) → GivesFrom text new after out → GivesFrom text old rest (ahead found out)
+  pub gives : (text : List ℕ) → old.line ≡ line_at text rest → (out : Result (List Token) CFault) → TokenizesFrom text new after out → TokenizesFrom text old rest (ahead found out)
 
 -- The text is refused here; out of memory is free.
 abbrev pub IsRefused : CFault → Reader → List ℕ → Type 0
 IsRefused fault.Memory r rest = Unit {0}
-IsRefused (fault.Text line kind) r rest = (text : List ℕ) → r.line ≡ line_at text rest → GivesFrom text r rest (Err (fault.Text line kind))
+IsRefused (fault.Text line kind) r rest = (text : List ℕ) → r.line ≡ line_at text rest → TokenizesFrom text r rest (Err (fault.Text line kind))
 
 -- From the start to a place.
 pub record Reached (text : List ℕ) (r : Reader) (rest : List ℕ) : Type 0 where
   pub first : 1 ≤ r.line
   pub line : r.line + newlines rest ≡ 1 + newlines text
-  pub gives : (out : Result (List Token) CFault) → GivesFrom text r rest out → Reads text (ahead r.found.items out)
+  pub gives : (out : Result (List Token) CFault) → TokenizesFrom text r rest out → Reads text (ahead r.found.items out)

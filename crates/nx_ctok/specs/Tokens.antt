@@ -87,20 +87,20 @@ ahead ts (Err e) = Err e
 
 -- What the rest of a text gives: its tokens with the end, or its first fault.
 -- fresh: nothing but blanks and comments stands before the rest on its line. values: the names defined before it.
-pub data Gives (text : List ℕ) : Bool → Definitions → List ℕ → Result (List Token) CFault → Type 0 where
-  End : (fresh : Bool) (values : Definitions) → Gives text fresh values [] (Ok (record { kind = kind.End; text = []; line = line_at text [] } ∷ []))
+pub data Tokenizes (text : List ℕ) : Bool → Definitions → List ℕ → Result (List Token) CFault → Type 0 where
+  End : (fresh : Bool) (values : Definitions) → Tokenizes text fresh values [] (Ok (record { kind = kind.End; text = []; line = line_at text [] } ∷ []))
   Refused : (fresh : Bool) (values : Definitions) (b : ℕ) (bs : List ℕ) (k : CKind) → piece_at fresh (b ∷ bs) ≡ Wrong k →
-      Gives text fresh values (b ∷ bs) (Err (fault.Text (line_at text (b ∷ bs)) k))
+      Tokenizes text fresh values (b ∷ bs) (Err (fault.Text (line_at text (b ∷ bs)) k))
   Skipped : (fresh : Bool) (values : Definitions) (bytes rest : List ℕ) (out : Result (List Token) CFault) → piece_at fresh bytes ≡ Space rest →
-      Gives text (fresh || nat_lt (newlines rest) (newlines bytes)) values rest out → Gives text fresh values bytes out
+      Tokenizes text (fresh || nat_lt (newlines rest) (newlines bytes)) values rest out → Tokenizes text fresh values bytes out
   Taken : (fresh : Bool) (values : Definitions) (bytes : List ℕ) (w : Word) (out : Result (List Token) CFault) → piece_at fresh bytes ≡ Spelled w →
-      Gives text false values w.rest out → Gives text fresh values bytes (ahead (replaced (line_at text bytes) w.kind w.text (meaning values w.kind w.text)) out)
+      Tokenizes text false values w.rest out → Tokenizes text fresh values bytes (ahead (replaced (line_at text bytes) w.kind w.text (meaning values w.kind w.text)) out)
   Defined : (fresh : Bool) (values : Definitions) (bytes rest : List ℕ) (d : Definition) (out : Result (List Token) CFault) → piece_at fresh bytes ≡ Define d rest →
-      Gives text false (with_definition values d) rest out → Gives text fresh values bytes out
+      Tokenizes text false (with_definition values d) rest out → Tokenizes text fresh values bytes out
 
 -- What a text gives.
 abbrev pub Reads : List ℕ → Result (List Token) CFault → Type 0
-Reads text out = Gives text true at_first text out
+Reads text out = Tokenizes text true at_first text out
 
 -- A token that is not the end, spelled as its kind is.
 abbrev pub IsSpelled : Token → Type 0

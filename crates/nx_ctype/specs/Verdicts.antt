@@ -187,14 +187,14 @@ abbrev pub Fails : {A : Type 0} → CFault → Result A CFault → Type 0
 Fails fault.Memory r = Unit {0}
 Fails (fault.Text line k) r = r ≡ Err (fault.Text line k)
 
-abbrev pub Gives : {A : Type 0} → Result A CFault → Used → Result (A × Used) CFault → Type 0
-Gives (Ok x) s r = r ≡ Ok (x, s)
-Gives (Err e) s r = Fails e r
+abbrev pub IsGivenUsing : {A : Type 0} → Result A CFault → Used → Result (A × Used) CFault → Type 0
+IsGivenUsing (Ok x) s r = r ≡ Ok (x, s)
+IsGivenUsing (Err e) s r = Fails e r
 
 -- The same of a list.
-abbrev pub GivesAll : {A : Type 0} → Result (Vec A) CFault → Used → Result (List A × Used) CFault → Type 0
-GivesAll (Ok xs) s r = r ≡ Ok (xs.items, s)
-GivesAll (Err e) s r = Fails e r
+abbrev pub AreGivenUsing : {A : Type 0} → Result (Vec A) CFault → Used → Result (List A × Used) CFault → Type 0
+AreGivenUsing (Ok xs) s r = r ≡ Ok (xs.items, s)
+AreGivenUsing (Err e) s r = Fails e r
 
 -- What was answered is what a rule gives at a line, unless memory ran out.
 abbrev pub IsGiven : {A : Type 0} → Result A CFault → Result A CFault → Type 0

@@ -3,7 +3,7 @@ use Rattle.std.proofs.Common.{◌≡◌, ◌≤◌, Bool, true, false, List, [],
 use Rattle.std.specs.Prelude.{Ok, Option, Some, None, if◌then◌else◌}
 use Rattle.nx_grammar.specs.Reading.{Reading, Pick, Pass, Take, bind, loop}
 use Rattle.nx_grammar.specs.Lawful.{Shorter}
-use Rattle.nx_grammar.specs.Chains.{chain_pick, behind, closed}
+use Rattle.nx_grammar.specs.Chains.{chain_pick, after_first, closed}
 use Rattle.nx_grammar.proofs.Loops.{loop_turn, loop_takes, loop_passes, loop_keeps}
 
 -- What a round takes passed the test.
@@ -17,9 +17,9 @@ passed_left a c right true e = absurd cc
 passed_left a c right false e = cc
 
 -- An operator at the front is the first token.
-behind_case : {T : Type 0} (t : T) (ts us : List T) (b : Bool) → (let x : Option (List T) = if b then Some ts else None in x) ≡ Some us → (b ≡ true) × (ts ≡ us)
-behind_case t ts us true e = (refl, cc)
-behind_case t ts us false e = absurd cc
+after_first_case : {T : Type 0} (t : T) (ts us : List T) (b : Bool) → (let x : Option (List T) = if b then Some ts else None in x) ≡ Some us → (b ≡ true) × (ts ≡ us)
+after_first_case t ts us true e = (refl, cc)
+after_first_case t ts us false e = absurd cc
 
 -- No operator at the front is a first token that is none.
 none_case : {T : Type 0} (ts : List T) (b : Bool) → (let x : Option (List T) = if b then Some ts else None in x) ≡ None → b ≡ false
@@ -31,7 +31,7 @@ module _ {T A : Type 0} (test : T → Bool) (right : A → Reading T A) (short :
   pub chain_shorter : Shorter (chain_pick test right)
   chain_shorter = record { on = λ a t read e ts b rest h. short a ts b rest (ap (λ (r : Reading T A). r ts) (taken_right a (right a) read (test t) e).1 ∙ h) }
 
-  -- Behind an operator the chain is its right side and the chain.
+  -- After an operator the chain is its right side and the chain.
   pub chain_takes : (a : A) (t : T) (us : List T) → test t ≡ true → loop (chain_pick test right) a (t ∷ us) ≡ bind (right a us) (loop (chain_pick test right))
   chain_takes a t us e = loop_takes (chain_pick test right) chain_shorter a t us (right a) (right a us) (rw e refl) refl
 
@@ -40,12 +40,12 @@ module _ {T A : Type 0} (test : T → Bool) (right : A → Reading T A) (short :
   chain_stops a t us e = loop_passes (chain_pick test right) chain_shorter a a t us (rw e refl)
 
   -- Where an operator stands at the front, the chain is its right side and the chain.
-  pub chain_on : (a : A) (ts us : List T) → behind test ts ≡ Some us → loop (chain_pick test right) a ts ≡ bind (right a us) (loop (chain_pick test right))
+  pub chain_on : (a : A) (ts us : List T) → after_first test ts ≡ Some us → loop (chain_pick test right) a ts ≡ bind (right a us) (loop (chain_pick test right))
   chain_on a [] us e = absurd cc
-  chain_on a (t ∷ ts) us e = let b = behind_case t ts us (test t) e in chain_takes a t ts b.0 ∙ ap (λ vs. bind (right a vs) (loop (chain_pick test right))) b.1
+  chain_on a (t ∷ ts) us e = let b = after_first_case t ts us (test t) e in chain_takes a t ts b.0 ∙ ap (λ vs. bind (right a vs) (loop (chain_pick test right))) b.1
 
   -- Where none does, it is over.
-  pub chain_closed : (a : A) (ts : List T) → behind test ts ≡ None → loop (chain_pick test right) a ts ≡ closed a ts
+  pub chain_closed : (a : A) (ts : List T) → after_first test ts ≡ None → loop (chain_pick test right) a ts ≡ closed a ts
   chain_closed a [] e = loop_turn (chain_pick test right) chain_shorter a []
   chain_closed a (t ∷ ts) e = chain_stops a t ts (none_case ts (test t) e)
 

@@ -8,9 +8,9 @@ abbrev pub chain_pick : {T A : Type 0} → (T → Bool) → (A → Reading T A) 
 chain_pick test right a t = if test t then Take (right a) else Pass a
 
 -- What stands after an operator at the front.
-abbrev pub behind : {T : Type 0} → (T → Bool) → List T → Option (List T)
-behind test [] = None
-behind test (t ∷ ts) = if test t then Some ts else None
+abbrev pub after_first : {T : Type 0} → (T → Bool) → List T → Option (List T)
+after_first test [] = None
+after_first test (t ∷ ts) = if test t then Some ts else None
 
 -- A chain that is over: a token stands after it.
 abbrev pub closed : {T A : Type 0} → A → Reading T A

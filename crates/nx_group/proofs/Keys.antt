@@ -164,7 +164,7 @@ set_same [] p v e = absurd cc
 set_same (x ∷ xs) zero v e = let h : x ≡ v = cc in ap (λ q. q ∷ xs) (sym h)
 set_same (x ∷ xs) (suc p) v e = ap (λ q. x ∷ q) (set_same xs p v e)
 
--- another value behind a key
+-- another value after a key
 pub seen_write : (s : Slab Open) (keys : List (Option ℕ)) (p key : ℕ) (v : Open) → AreKept s keys → slice_get keys p ≡ Some (Some key) → seen (with_value s key v) keys ≡ slice_set (seen s keys) p (Some v)
 seen_write s keys p key v h is =
     let has = some_has (get s key) (h.there p key is) in

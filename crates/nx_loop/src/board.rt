@@ -63,8 +63,8 @@ fn program(alloc: Global) -> Result<ProgImage, OutOfMemory>
 #[tactic(auto, unfolding(nx_space::specs::World::has_view))]
 fn started<S: Space + Drop>(mut space: S) -> Result<Board<S>, OutOfMemory>
     requires none { (S.world space).groups ≡ [] }
-    requires threads { 0 < (S.world space).plan.threads }
-    requires programs { 0 < length (S.world space).plan.programs }
+    requires threads { 0 < (S.world space).memory_map.threads }
+    requires programs { 0 < length (S.world space).memory_map.programs }
     ensures { IfOk result (λ board. IsEntered (S.world board.space)) }
 {
     match space.start(GROUP, 0, 0, true) {

@@ -18,7 +18,7 @@ use Rattle.nx_tables.specs.Roles.{Role, Free, is_of, SameRoles, Stands}
 use Rattle.nx_tables.specs.Seen.{IsMapped}
 use Rattle.nx_tables.proofs.Kept.{same_number, other_number, of_one, table_is_of, stands_kept}
 use Rattle.nx_tables.proofs.Views.{seen_kept}
-use Rattle.nx_space.specs.World.{Plan}
+use Rattle.nx_space.specs.World.{MemoryMap}
 use Rattle.nx_space.specs.Starts.{program_at, stack_low, frames_for}
 use Rattle.nx_paged.specs.Tenants.{Tenant, has_tenant, are_distinct, frames_taken}
 use Rattle.nx_paged.specs.Spans.{Span, Each, IsSpan, spans_of, span_bytes}
@@ -237,10 +237,10 @@ distinct_last (u ∷ us) t h none =
     apart : false ≡ true → ⊥
     apart z = cc
 
-taken_last : (plan : Plan) (ts : List Tenant) (t : Tenant) → frames_taken plan (ts ++ t ∷ []) ≡ frames_taken plan ts + frames_for plan t.program t.slots
+taken_last : (memory_map : MemoryMap) (ts : List Tenant) (t : Tenant) → frames_taken memory_map (ts ++ t ∷ []) ≡ frames_taken memory_map ts + frames_for memory_map t.program t.slots
 unfolding frames_taken
-taken_last plan [] t = omega arith
-taken_last plan (u ∷ us) t = let r = taken_last plan us t in omega (arith, r)
+taken_last memory_map [] t = omega arith
+taken_last memory_map (u ∷ us) t = let r = taken_last memory_map us t in omega (arith, r)
 
 length_last : (ts : List Tenant) (t : Tenant) → length (ts ++ t ∷ []) ≡ length ts + 1
 length_last ts t = length-append ts (t ∷ [])
@@ -248,7 +248,7 @@ length_last ts t = length-append ts (t ∷ [])
 pub begun_placed : (s : Paging) (stock : Stock) (taken_ram ram : List ℕ) (number place slot root : ℕ) (t : Taken) → Starts s stock taken_ram ram number place slot root t → AreBytes ram → length ram ≡ length s.ram → IsPlaced (with_newcomer s stock ram (newcomer number place slot root t))
 begun_placed s stock taken_ram ram number place slot root t h bytes long =
     let new = newcomer number place slot root t in
-    let plan = same_plan s stock (s.tenants ++ new ∷ []) h.same in
+    let memory_map = same_plan s stock (s.tenants ++ new ∷ []) h.same in
     let k = h.placed in
     record {
       fits = subst (λ n. FitsPaged n s.pool s.programs s.stack s.threads) (sym long) k.fits;
@@ -257,13 +257,13 @@ begun_placed s stock taken_ram ram number place slot root t h bytes long =
       frames = ap (λ n. s.pool + 4096 * n) h.same.count ∙ k.frames ∙ sym long;
       few = let l = length_last s.tenants new in let r = h.some in omega (arith, l, r);
       distinct = distinct_last s.tenants new k.distinct h.fresh_number;
-      tenants = subst (λ q. All (IsTenant q) (s.tenants ++ new ∷ [])) (sym plan) (all_of (IsTenant (paged_plan s)) (s.tenants ++ new ∷ []) (each_last (IsTenant (paged_plan s)) s.tenants new (each_of (IsTenant (paged_plan s)) s.tenants k.tenants) (record { program = h.program; once = refl; slots = one_slot })));
+      tenants = subst (λ q. All (IsTenant q) (s.tenants ++ new ∷ [])) (sym memory_map) (all_of (IsTenant (paged_plan s)) (s.tenants ++ new ∷ []) (each_last (IsTenant (paged_plan s)) s.tenants new (each_of (IsTenant (paged_plan s)) s.tenants k.tenants) (record { program = h.program; once = refl; slots = one_slot })));
       counted =
           let c = k.counted in
           let n = h.same.count in
           let o = ap length h.takes.order ∙ length-append (frames_of stock t) stock.free in
           let l = frames_long s stock taken_ram ram number place slot root t h in
-          let r = ap (λ q. frames_taken q (s.tenants ++ new ∷ [])) plan ∙ taken_last (paged_plan s) s.tenants new in
+          let r = ap (λ q. frames_taken q (s.tenants ++ new ∷ [])) memory_map ∙ taken_last (paged_plan s) s.tenants new in
           omega (arith, c, n, o, l, r);
     }
   where

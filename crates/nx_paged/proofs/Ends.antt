@@ -12,7 +12,7 @@ use Rattle.nx_frames.proofs.Chains.{length-chain}
 use Rattle.nx_frames.proofs.Owners.{given_held, held_first}
 use Rattle.nx_tables.specs.Roles.{Role, Free, is_of, freed, SameRoles}
 use Rattle.nx_tables.proofs.Kept.{freed_others, end_frees}
-use Rattle.nx_space.specs.World.{Plan}
+use Rattle.nx_space.specs.World.{MemoryMap}
 use Rattle.nx_space.specs.Starts.{frames_for, without, finished, but_outside}
 use Rattle.nx_paged.specs.Tenants.{Tenant, has_tenant, are_distinct, root_of, place_of, frames_taken}
 use Rattle.nx_paged.specs.Spans.{Each}
@@ -71,14 +71,14 @@ place_number (t ∷ ts) number d h = by_test (t.number == number) refl h (λ q. 
     by_test true e h more = is_number t.number number e
     by_test false e h more = more h
 
-pub without_removed : (ram : List ℕ) (plan : Plan) (ts : List Tenant) (number : ℕ) → has_tenant ts number ≡ true → without (map (paged_group ram plan) ts) number ≡ map (paged_group ram plan) (remove ts (place_of ts number))
+pub without_removed : (ram : List ℕ) (memory_map : MemoryMap) (ts : List Tenant) (number : ℕ) → has_tenant ts number ≡ true → without (map (paged_group ram memory_map) ts) number ≡ map (paged_group ram memory_map) (remove ts (place_of ts number))
 unfolding has_tenant place_of without
-without_removed ram plan [] number h = absurd cc
-without_removed ram plan (t ∷ ts) number h = by_test (t.number == number) h (λ q. without_removed ram plan ts number q)
+without_removed ram memory_map [] number h = absurd cc
+without_removed ram memory_map (t ∷ ts) number h = by_test (t.number == number) h (λ q. without_removed ram memory_map ts number q)
   where
-    by_test : (b : Bool) → (b || has_tenant ts number) ≡ true → (has_tenant ts number ≡ true → without (map (paged_group ram plan) ts) number ≡ map (paged_group ram plan) (remove ts (place_of ts number))) → (if b then map (paged_group ram plan) ts else paged_group ram plan t ∷ without (map (paged_group ram plan) ts) number) ≡ map (paged_group ram plan) (remove (t ∷ ts) (if b then 0 else suc (place_of ts number)))
+    by_test : (b : Bool) → (b || has_tenant ts number) ≡ true → (has_tenant ts number ≡ true → without (map (paged_group ram memory_map) ts) number ≡ map (paged_group ram memory_map) (remove ts (place_of ts number))) → (if b then map (paged_group ram memory_map) ts else paged_group ram memory_map t ∷ without (map (paged_group ram memory_map) ts) number) ≡ map (paged_group ram memory_map) (remove (t ∷ ts) (if b then 0 else suc (place_of ts number)))
     by_test true h more = refl
-    by_test false h more = ap (λ gs. paged_group ram plan t ∷ gs) (more h)
+    by_test false h more = ap (λ gs. paged_group ram memory_map t ∷ gs) (more h)
 
 -- a fact of each, without one
 pub each_removed : (P : Tenant → Type 0) (ts : List Tenant) (i : ℕ) → Each P ts → Each P (remove ts i)
@@ -142,11 +142,11 @@ others_differ (t ∷ ts) number once h = by_test (t.number == number) refl h (λ
     by_test false e h more = (differs e, more h)
 
 -- the frames of all but one
-pub taken_removed : (plan : Plan) (ts : List Tenant) (i : ℕ) (d : Tenant) → i < length ts → frames_taken plan ts ≡ frames_for plan (get_or ts i d).program (get_or ts i d).slots + frames_taken plan (remove ts i)
+pub taken_removed : (memory_map : MemoryMap) (ts : List Tenant) (i : ℕ) (d : Tenant) → i < length ts → frames_taken memory_map ts ≡ frames_for memory_map (get_or ts i d).program (get_or ts i d).slots + frames_taken memory_map (remove ts i)
 unfolding frames_taken
-taken_removed plan [] i d h = absurd (omega (arith, h))
-taken_removed plan (t ∷ ts) zero d h = refl
-taken_removed plan (t ∷ ts) (suc i) d h = let r = taken_removed plan ts i d (omega (arith, h)) in omega (arith, r)
+taken_removed memory_map [] i d h = absurd (omega (arith, h))
+taken_removed memory_map (t ∷ ts) zero d h = refl
+taken_removed memory_map (t ∷ ts) (suc i) d h = let r = taken_removed memory_map ts i d (omega (arith, h)) in omega (arith, r)
 
 pub length_removed : (ts : List Tenant) (i : ℕ) → i < length ts → length (remove ts i) + 1 ≡ length ts
 length_removed [] i h = absurd (omega (arith, h))
@@ -170,9 +170,9 @@ held_moved s (t ∷ ts) (suc i) d h k =
     held_first s (get_or ts i d).taken (t.taken ∷ []) (holdings (remove ts i)) (k.0, apart_moved s t.taken ts i d (omega (arith, h)) k.1, r)
 
 -- each of the others is as it was, without the group's frames
-still_live : (ram : List ℕ) (old new : Stock) (plan : Plan) (role : ℕ → Role) (g : ℕ) (t : Taken) (ts : List Tenant) → Each (IsLive ram old plan role) ts → Each (λ u. u.number ≢ g) ts → AreHeld old (holdings ts) → IsApartFrom old t (holdings ts) → KeepsOthers old new (frames_of old t) → Each (IsLive ram new plan (freed role g)) ts
-still_live ram old new plan role g t [] live ne held apart keeps = tt
-still_live ram old new plan role g t (u ∷ us) live ne held apart keeps =
+still_live : (ram : List ℕ) (old new : Stock) (memory_map : MemoryMap) (role : ℕ → Role) (g : ℕ) (t : Taken) (ts : List Tenant) → Each (IsLive ram old memory_map role) ts → Each (λ u. u.number ≢ g) ts → AreHeld old (holdings ts) → IsApartFrom old t (holdings ts) → KeepsOthers old new (frames_of old t) → Each (IsLive ram new memory_map (freed role g)) ts
+still_live ram old new memory_map role g t [] live ne held apart keeps = tt
+still_live ram old new memory_map role g t (u ∷ us) live ne held apart keeps =
     let k = live.0 in
     let same = freed_others g u.number role ne.0 in
     let kept = keeps u.taken held.0 apart.0 in (
@@ -184,7 +184,7 @@ still_live ram old new plan role g t (u ∷ us) live ne held apart keeps =
         frames = subst (λ l. Each (FrameAt (λ r. is_of u.number r ≡ true) (freed role g)) l) (sym kept.frames) (frames_still (frames_of old u.taken) same k.frames);
         count = k.count;
       },
-      still_live ram old new plan role g t us live.1 ne.1 held.2 apart.1 keeps,
+      still_live ram old new memory_map role g t us live.1 ne.1 held.2 apart.1 keeps,
     )
   where
     frames_still : (l : List ℕ) → SameRoles u.number role (freed role g) → Each (FrameAt (λ r. is_of u.number r ≡ true) role) l → Each (FrameAt (λ r. is_of u.number r ≡ true) (freed role g)) l
@@ -217,7 +217,7 @@ freed_of role g h f = by_test (is_of g (role f))
 abbrev pub without_tenant : Paging → Stock → ℕ → Paging
 without_tenant s stock i = record s { stock = stock; tenants = remove s.tenants i }
 
--- the plan depends on the number of frames alone
+-- the memory map depends on the number of frames alone
 pub same_plan : (s : Paging) (new : Stock) (ts : List Tenant) → SameFrames s.stock new → paged_plan (record s { stock = new; tenants = ts }) ≡ paged_plan s
 same_plan s new ts same = ap (λ n. record (paged_plan s) { frames = n }) same.count
 
@@ -237,7 +237,7 @@ ended s new number d p same once has free keeps =
     let own = subst (λ g. Each (FrameAt (λ r. is_of g r ≡ true) role) (frames_of s.stock t.taken)) (place_number s.tenants number d has) (each_at (IsLive s.ram s.stock (paged_plan s) role) s.tenants i d inside p.live).frames in
     record {
       role = freed role number;
-      live = subst (λ plan. Each (IsLive s.ram new plan (freed role number)) (remove s.tenants i)) (sym (same_plan s new (remove s.tenants i) same)) (still_live s.ram s.stock new (paged_plan s) role number t.taken (remove s.tenants i) (each_removed (IsLive s.ram s.stock (paged_plan s) role) s.tenants i p.live) (others_differ s.tenants number once has) h.2 h.1 keeps);
+      live = subst (λ memory_map. Each (IsLive s.ram new memory_map (freed role number)) (remove s.tenants i)) (sym (same_plan s new (remove s.tenants i) same)) (still_live s.ram s.stock new (paged_plan s) role number t.taken (remove s.tenants i) (each_removed (IsLive s.ram s.stock (paged_plan s) role) s.tenants i p.live) (others_differ s.tenants number once has) h.2 h.1 keeps);
       held = given_held s.stock new t.taken (holdings (remove s.tenants i)) h keeps;
       nobody = subst (λ l. Each (FrameAt (λ r. r ≡ Free) (freed role number)) l) (sym free) (frames_both (FrameAt (λ r. r ≡ Free) (freed role number)) (frames_of s.stock t.taken) s.stock.free (own_freed role number (frames_of s.stock t.taken) own) (still_free role number s.stock.free p.nobody));
       past = λ f g e. p.past f g (freed_of role number g f e);
@@ -249,7 +249,7 @@ ended_placed s new number d h same has count free =
     let inside = place_inside s.tenants number has in
     let t = get_or s.tenants i d in
     let ts = remove s.tenants i in
-    let plan = same_plan s new ts same in
+    let memory_map = same_plan s new ts same in
     record {
       fits = h.fits;
       bytes = h.bytes;
@@ -257,14 +257,14 @@ ended_placed s new number d h same has count free =
       frames = ap (λ n. s.pool + 4096 * n) same.count ∙ h.frames;
       few = let l = length_removed s.tenants i inside in let f = h.few in omega (arith, l, f);
       distinct = distinct_removed s.tenants i h.distinct;
-      tenants = subst (λ p. All (IsTenant p) ts) (sym plan) (all_of (IsTenant (paged_plan s)) ts (each_removed (IsTenant (paged_plan s)) s.tenants i (each_of (IsTenant (paged_plan s)) s.tenants h.tenants)));
+      tenants = subst (λ p. All (IsTenant p) ts) (sym memory_map) (all_of (IsTenant (paged_plan s)) ts (each_removed (IsTenant (paged_plan s)) s.tenants i (each_of (IsTenant (paged_plan s)) s.tenants h.tenants)));
       counted =
           let c = h.counted in
           let n = same.count in
           let l = ap length free ∙ length-append (frames_of s.stock t.taken) s.stock.free in
           let k = length-chain s.stock.first s.stock.next t.taken.head t.taken.count in
           let r = taken_removed (paged_plan s) s.tenants i d inside in
-          let q = ap (λ p. frames_taken p ts) plan in
+          let q = ap (λ p. frames_taken p ts) memory_map in
           omega (arith, c, n, l, k, r, q, count);
     }
 
@@ -282,8 +282,8 @@ ended_world s new number same has =
     let i = place_of s.tenants number in
     let ts = remove s.tenants i in
     let w = paged_world (without_tenant s new i) in
-    ap (λ plan. record w { plan = plan; groups = map (paged_group s.ram plan) ts }) (same_plan s new ts same)
-    ∙ ap (λ gs. record w { plan = paged_plan s; groups = gs }) (sym (without_removed s.ram (paged_plan s) s.tenants number has))
+    ap (λ memory_map. record w { memory_map = memory_map; groups = map (paged_group s.ram memory_map) ts }) (same_plan s new ts same)
+    ∙ ap (λ gs. record w { memory_map = paged_plan s; groups = gs }) (sym (without_removed s.ram (paged_plan s) s.tenants number has))
 
 -- the frames of the group that ends are held
 pub ended_holds : (s : Paging) (number : ℕ) (d : Tenant) → ∥ IsPaged s ∥₁ → has_tenant s.tenants number ≡ true → Holds s.stock (get_or s.tenants (place_of s.tenants number) d).taken

@@ -89,5 +89,5 @@ is_fresh s f w =
     let inside = f.pool_inside in
     let fresh = fresh_world s.ram s.pool s.programs s.stack s.threads in
     ap paged_world (sym (written s w))
-    ∙ ap (λ n. record (paged_world (empty s)) { plan = record fresh.plan { frames = n } }) w.count
+    ∙ ap (λ n. record (paged_world (empty s)) { memory_map = record fresh.memory_map { frames = n } }) w.count
     ∙ ap (λ o. record fresh { outside = o }) (none_shown s.ram s.pool (length s.ram - s.pool) (omega (arith, inside)))

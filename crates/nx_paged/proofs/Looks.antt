@@ -31,7 +31,7 @@ look_out first (suc n) writes rest v out =
     ap (λ b. if b then Some writes else look (entries_from (first + 1) n writes ++ rest) v) (other v first ne)
     ∙ look_out (first + 1) n writes rest v (⊎_elim (λ l. inl (omega (arith, l))) (λ l. inr (omega (arith, l))) out)
 
--- the page behind a right
+-- the page after a right
 pub right_page : (m : Maps) (at : ℕ) (writes : Bool) → right_of (m.pages (at / 4096)) ≡ Some writes → PageAt m at writes
 right_page m at writes e = by_page (m.pages (at / 4096)) refl e
   where

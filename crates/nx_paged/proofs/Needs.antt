@@ -3,7 +3,7 @@ use Rattle.std.proofs.Common.{◌≡◌, ℕ, zero, suc, ◌+◌, ◌/◌, ◌�
 use Rattle.std.specs.Prelude.{if◌then◌else◌}
 use Rattle.std.proofs.lemmas.List.{length-append, append-nil}
 use Rattle.nx_ram.specs.declared.prog_image.ProgImage.{ProgImage}
-use Rattle.nx_space.specs.World.{Plan}
+use Rattle.nx_space.specs.World.{MemoryMap}
 use Rattle.nx_space.specs.Starts.{program_at, stack_low, pages_of, pages_from, different, frames_for}
 use Rattle.nx_paged.specs.Spans.{Each}
 use Rattle.nx_paged.specs.Paging.{IsLaidOut}
@@ -64,14 +64,14 @@ append_again [] ys zs = refl
 append_again (x ∷ xs) ys zs = ap (λ l. x ∷ l) (append_again xs ys zs)
 
 -- the frames of a group with one stack are those of its entries
-pub need_is : (plan : Plan) (place slot : ℕ) → plan.is_paged ≡ true → (let p = program_at plan place in frames_for plan place (slot ∷ []) ≡ 1 + (length (program_entries p (stack_low plan slot) plan.stack) + different (regions_of (program_entries p (stack_low plan slot) plan.stack))))
+pub need_is : (memory_map : MemoryMap) (place slot : ℕ) → memory_map.is_paged ≡ true → (let p = program_at memory_map place in frames_for memory_map place (slot ∷ []) ≡ 1 + (length (program_entries p (stack_low memory_map slot) memory_map.stack) + different (regions_of (program_entries p (stack_low memory_map slot) memory_map.stack))))
 unfolding frames_for
-need_is plan place slot paged =
-    let p = program_at plan place in
-    let low = stack_low plan slot in
+need_is memory_map place slot paged =
+    let p = program_at memory_map place in
+    let low = stack_low memory_map slot in
     let nt = pages_of (length p.text) in
     let nd = pages_of (length p.init) in
-    let ns = pages_of plan.stack in
+    let ns = pages_of memory_map.stack in
     let t : List ℕ = pages_from (p.text_at / 4096) nt in
     let d : List ℕ = pages_from (p.data_at / 4096) nd in
     let s : List ℕ = pages_from (low / 4096) ns in

@@ -11,7 +11,7 @@ use Rattle.nx_sv32.specs.Walk.{ram_start}
 use Rattle.nx_tables.specs.Maps.{satp_of}
 use Rattle.nx_tables.specs.Roles.{Role, Free, is_of}
 use Rattle.nx_tables.specs.Seen.{seen}
-use Rattle.nx_space.specs.World.{Own, Part, Group, Plan}
+use Rattle.nx_space.specs.World.{Own, Part, Group, MemoryMap}
 use Rattle.nx_space.specs.Starts.{pages_of, paged, area_of, areas_of, own_parts, frames_for, started, but_outside}
 use Rattle.nx_paged.specs.Spans.{Each, span_of, spans_of, parts_from, span_bytes}
 use Rattle.nx_paged.specs.Paging.{Paging, paged_plan, paged_group, paged_world, FrameAt, IsLive, IsPaged}
@@ -36,7 +36,7 @@ pub begun_paged : (s : Paging) (stock : Stock) (taken_ram ram : List ℕ) (numbe
 begun_paged s stock taken_ram ram number place slot root t h p m =
     let new = newcomer number place slot root t in
     let frames = frames_of stock t in
-    let plan = same_plan s stock (s.tenants ++ new ∷ []) h.same in
+    let memory_map = same_plan s stock (s.tenants ++ new ∷ []) h.same in
     let u = untouched s stock taken_ram ram number place slot root t h p m in
     let laid = group_laid_out (paged_plan s) place (slot ∷ []) (fits_stacks s h.placed) (laid_out s.programs place h.placed.fits.laid_out h.program) refl (one_slot s.threads slot h.slot_is) in
     let live : IsLive ram stock (paged_plan s) m.roles new = record {
@@ -51,7 +51,7 @@ begun_paged s stock taken_ram ram number place slot root t h p m =
     let held = taken_held s.stock stock s.ram taken_ram (frames_for (paged_plan s) place (slot ∷ [])) t (holdings s.tenants) h.takes p.held in
     record {
       role = m.roles;
-      live = subst (λ q. Each (IsLive ram stock q m.roles) (s.tenants ++ new ∷ [])) (sym plan) (each_last (IsLive ram stock (paged_plan s) m.roles) s.tenants new lives live);
+      live = subst (λ q. Each (IsLive ram stock q m.roles) (s.tenants ++ new ∷ [])) (sym memory_map) (each_last (IsLive ram stock (paged_plan s) m.roles) s.tenants new lives live);
       held = subst (AreHeld stock) (sym (map_last (λ x. x.taken) s.tenants new)) (held_back stock t (holdings s.tenants) [] (subst (λ l. AreHeld stock (t ∷ l)) (sym (append-nil (holdings s.tenants))) held));
       nobody = still_nobody p.role m.roles frames stock.free m.elsewhere h.takes.holds.apart (each_right (FrameAt (λ r. r ≡ Free) p.role) frames stock.free (subst (Each (FrameAt (λ r. r ≡ Free) p.role)) h.takes.order p.nobody));
       past = λ f g own. ⊎_elim
@@ -93,9 +93,9 @@ own_areas ram root ta da low stack (b ∷ bs) (c ∷ cs) t d s =
     ∙ ap (λ y. paged (b ∷ bs) ∷ y ∷ seen ram (satp_of root) low (4096 * pages_of stack) ∷ []) d
     ∙ ap (λ z. paged (b ∷ bs) ∷ paged (c ∷ cs) ∷ z ∷ []) s
 
-abbrev pub started_group : Plan → ℕ → ℕ → ℕ → Group
-started_group plan number place slot =
-    let areas = areas_of plan place slot in
+abbrev pub started_group : MemoryMap → ℕ → ℕ → ℕ → Group
+started_group memory_map number place slot =
+    let areas = areas_of memory_map place slot in
     record { number = number; program = place; slot = slot; parts = own_parts 0 areas; own = map (λ a. a.bytes) areas; slots = slot ∷ [] }
 
 new_group : (s : Paging) (taken_ram ram frames : List ℕ) (number place slot root : ℕ) (t : Taken) (role : ℕ → Role) → IsMappedIn taken_ram ram frames root (program_in s place) (low_of s slot) s.stack role number → paged_group ram (paged_plan s) (newcomer number place slot root t) ≡ started_group (paged_plan s) number place slot
@@ -151,6 +151,6 @@ begun_world s stock taken_ram ram number place slot root t fresh h p m =
     ∙ ap (λ gs. gs ++ paged_group ram (paged_plan s) new ∷ []) (still_groups s stock ram number p.role m.roles s.tenants u p.live h.fresh_number)
     ∙ ap (λ g. map (paged_group s.ram (paged_plan s)) s.tenants ++ g ∷ []) (new_group s taken_ram ram (frames_of stock t) number place slot root t p.role m)
     in
-    ap (λ plan. record w { plan = plan; groups = map (paged_group ram plan) ts }) (same_plan s stock ts h.same)
-    ∙ ap (λ gs. record w { plan = paged_plan s; groups = gs }) groups
-    ∙ ap (λ bs. record w { plan = paged_plan s; groups = map (paged_group s.ram (paged_plan s)) s.tenants ++ started_group (paged_plan s) number place slot ∷ []; common = bs ∷ [] }) (pool_same s stock taken_ram ram number place slot root t h p m)
+    ap (λ memory_map. record w { memory_map = memory_map; groups = map (paged_group ram memory_map) ts }) (same_plan s stock ts h.same)
+    ∙ ap (λ gs. record w { memory_map = paged_plan s; groups = gs }) groups
+    ∙ ap (λ bs. record w { memory_map = paged_plan s; groups = map (paged_group s.ram (paged_plan s)) s.tenants ++ started_group (paged_plan s) number place slot ∷ []; common = bs ∷ [] }) (pool_same s stock taken_ram ram number place slot root t h p m)

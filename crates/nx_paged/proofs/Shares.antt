@@ -7,7 +7,7 @@ use Rattle.nx_tables.specs.Maps.{Page, Maps, satp_of, lets, translated}
 use Rattle.nx_tables.specs.Roles.{Role, Leaf, Stands}
 use Rattle.nx_tables.proofs.Walked.{walk_mapped}
 use Rattle.nx_tables.proofs.Views.{same_page}
-use Rattle.nx_space.specs.World.{Group, Plan, World, has_view, group_of}
+use Rattle.nx_space.specs.World.{Group, MemoryMap, World, has_view, group_of}
 use Rattle.nx_space.specs.Lawful.{IsWorld}
 use Rattle.nx_space.specs.Starts.{frames_of, needs, free, start_need, started, finished, without, but_outside, paged_start, shared_start}
 use Rattle.nx_paged.specs.Tenants.{has_tenant, root_of}
@@ -15,42 +15,42 @@ use Rattle.nx_paged.specs.Paging.{Paging, paged_plan, IsLive, IsPaged}
 use Rattle.nx_paged.specs.Finding.{find_tenant}
 use Rattle.nx_paged.proofs.Newcomers.{started_group}
 
-needs_last : (plan : Plan) (gs : List Group) (g : Group) → needs plan (gs ++ g ∷ []) ≡ needs plan gs + frames_of plan g
+needs_last : (memory_map : MemoryMap) (gs : List Group) (g : Group) → needs memory_map (gs ++ g ∷ []) ≡ needs memory_map gs + frames_of memory_map g
 unfolding needs
-needs_last plan [] g = omega arith
-needs_last plan (k ∷ gs) g = let r = needs_last plan gs g in omega (arith, r)
+needs_last memory_map [] g = omega arith
+needs_last memory_map (k ∷ gs) g = let r = needs_last memory_map gs g in omega (arith, r)
 
-needs_without : (plan : Plan) (gs : List Group) (number : ℕ) → has_view gs number ≡ true → needs plan (without gs number) + frames_of plan (group_of gs number) ≡ needs plan gs
+needs_without : (memory_map : MemoryMap) (gs : List Group) (number : ℕ) → has_view gs number ≡ true → needs memory_map (without gs number) + frames_of memory_map (group_of gs number) ≡ needs memory_map gs
 unfolding needs without has_view group_of
-needs_without plan [] number h = absurd cc
-needs_without plan (g ∷ gs) number h = by_test (g.number == number) h (λ q. needs_without plan gs number q)
+needs_without memory_map [] number h = absurd cc
+needs_without memory_map (g ∷ gs) number h = by_test (g.number == number) h (λ q. needs_without memory_map gs number q)
   where
-    by_test : (b : Bool) → (b || has_view gs number) ≡ true → (has_view gs number ≡ true → needs plan (without gs number) + frames_of plan (group_of gs number) ≡ needs plan gs) → needs plan (if b then gs else g ∷ without gs number) + frames_of plan (if b then g else group_of gs number) ≡ frames_of plan g + needs plan gs
+    by_test : (b : Bool) → (b || has_view gs number) ≡ true → (has_view gs number ≡ true → needs memory_map (without gs number) + frames_of memory_map (group_of gs number) ≡ needs memory_map gs) → needs memory_map (if b then gs else g ∷ without gs number) + frames_of memory_map (if b then g else group_of gs number) ≡ frames_of memory_map g + needs memory_map gs
     by_test true q more = omega arith
     by_test false q more = let r = more q in omega (arith, r)
 
 free_outside : (u new : World) → new ≡ but_outside u new → free new ≡ free u
-free_outside u new e = by_pages u.plan.is_paged refl (ap free e)
+free_outside u new e = by_pages u.memory_map.is_paged refl (ap free e)
   where
-    by_pages : (b : Bool) → u.plan.is_paged ≡ b → free new ≡ free (if u.plan.is_paged then record u { outside = new.outside } else u) → free new ≡ free u
+    by_pages : (b : Bool) → u.memory_map.is_paged ≡ b → free new ≡ free (if u.memory_map.is_paged then record u { outside = new.outside } else u) → free new ≡ free u
     by_pages true p f = f ∙ ap (λ b. free (if b then record u { outside = new.outside } else u)) p
     by_pages false p f = f ∙ ap (λ b. free (if b then record u { outside = new.outside } else u)) p
 
 -- a start takes its need
-pub start_takes : (w new : World) (number place slot : ℕ) (fresh : Bool) → w.plan.is_paged ≡ true → start_need w.plan place slot ≤ free w → new ≡ but_outside (started w number place slot fresh) new → free new + start_need w.plan place slot ≡ free w
+pub start_takes : (w new : World) (number place slot : ℕ) (fresh : Bool) → w.memory_map.is_paged ≡ true → start_need w.memory_map place slot ≤ free w → new ≡ but_outside (started w number place slot fresh) new → free new + start_need w.memory_map place slot ≡ free w
 unfolding started
 start_takes w new number place slot fresh p enough e =
     let f = free_outside (started w number place slot fresh) new e in
     let u = ap (λ b. free (if b then paged_start w number place slot else shared_start w number place slot fresh)) p in
-    let n = needs_last w.plan w.groups (started_group w.plan number place slot) in
+    let n = needs_last w.memory_map w.groups (started_group w.memory_map number place slot) in
     omega (arith, f, u, n, enough)
 
 -- an end gives back what the group had
-pub end_gives : (w new : World) (number : ℕ) → IsWorld w → has_view w.groups number ≡ true → new ≡ but_outside (finished w number) new → free new ≡ free w + frames_of w.plan (group_of w.groups number)
+pub end_gives : (w new : World) (number : ℕ) → IsWorld w → has_view w.groups number ≡ true → new ≡ but_outside (finished w number) new → free new ≡ free w + frames_of w.memory_map (group_of w.groups number)
 unfolding finished
 end_gives w new number h v e =
     let f = free_outside (finished w number) new e in
-    let n = needs_without w.plan w.groups number v in
+    let n = needs_without w.memory_map w.groups number v in
     let k = h.enough in
     omega (arith, f, n, k)
 

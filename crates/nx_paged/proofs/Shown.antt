@@ -8,7 +8,7 @@ use Rattle.nx_sv32.specs.Walk.{ram_start, walk}
 use Rattle.nx_tables.specs.Maps.{Maps, satp_of}
 use Rattle.nx_tables.specs.Roles.{Role, Stands}
 use Rattle.nx_tables.proofs.Walked.{walk_mapped}
-use Rattle.nx_space.specs.World.{Plan}
+use Rattle.nx_space.specs.World.{MemoryMap}
 use Rattle.nx_paged.specs.Tenants.{Tenant}
 use Rattle.nx_paged.specs.Spans.{Span, Each, IsSpan, spans_of}
 use Rattle.nx_paged.specs.Outside.{is_place, is_seen, in_spans, is_shown, bytes_without}
@@ -50,21 +50,21 @@ spans_same old new role after g m (x ∷ xs) k s t fine =
     ∙ ap (λ b. is_seen old (satp_of m.root) x.start x.bytes k || b) (spans_same old new role after g m xs k s t fine.1)
 
 -- what stands before and after a change
-pub record StandsBoth (old new : List ℕ) (role after : ℕ → Role) (plan : Plan) (t : Tenant) : Type 0 where
+pub record StandsBoth (old new : List ℕ) (role after : ℕ → Role) (memory_map : MemoryMap) (t : Tenant) : Type 0 where
   pub maps : Maps
   pub root : maps.root ≡ t.root
   pub before : Stands old role t.number maps
   pub now : Stands new after t.number maps
-  pub fine : Each IsSpan (spans_of plan t.program t.slots)
+  pub fine : Each IsSpan (spans_of memory_map t.program t.slots)
 
-pub shown_same : (old new : List ℕ) (role after : ℕ → Role) (plan : Plan) (ts : List Tenant) (k : ℕ) → Each (StandsBoth old new role after plan) ts → is_shown new plan ts k ≡ is_shown old plan ts k
+pub shown_same : (old new : List ℕ) (role after : ℕ → Role) (memory_map : MemoryMap) (ts : List Tenant) (k : ℕ) → Each (StandsBoth old new role after memory_map) ts → is_shown new memory_map ts k ≡ is_shown old memory_map ts k
 unfolding is_shown
-shown_same old new role after plan [] k h = refl
-shown_same old new role after plan (t ∷ ts) k h =
+shown_same old new role after memory_map [] k h = refl
+shown_same old new role after memory_map (t ∷ ts) k h =
     let b = h.0 in
-    let spans = spans_of plan t.program t.slots in
+    let spans = spans_of memory_map t.program t.slots in
     let one = subst (λ r. in_spans new r spans k ≡ in_spans old r spans k) b.root (spans_same old new role after t.number b.maps spans k b.before b.now b.fine) in
-    ap (λ x. x || is_shown new plan ts k) one ∙ ap (λ x. in_spans old t.root spans k || x) (shown_same old new role after plan ts k h.1)
+    ap (λ x. x || is_shown new memory_map ts k) one ∙ ap (λ x. in_spans old t.root spans k || x) (shown_same old new role after memory_map ts k h.1)
 
 -- the bytes that no window shows
 pub without_same : (test other : ℕ → Bool) (old new : List ℕ) (k n : ℕ) → ((j : ℕ) → other j ≡ test j) → ((j : ℕ) → test j ≡ false → get_or new j 0 ≡ get_or old j 0) → bytes_without other new k n ≡ bytes_without test old k n

@@ -3,7 +3,7 @@ use Rattle.std.proofs.Common.{◌≡◌, ◌≢◌, ℕ, suc, ◌==◌, Bool, tr
 use Rattle.std.specs.Prelude.{if◌then◌else◌}
 use Rattle.std.specs.List.{All}
 use Rattle.std.proofs.lemmas.Bool.Decides.{nat_tests}
-use Rattle.nx_space.specs.World.{Group, Plan, has_view, group_of}
+use Rattle.nx_space.specs.World.{Group, MemoryMap, has_view, group_of}
 use Rattle.nx_space.specs.Places.{with_own}
 use Rattle.nx_paged.specs.Tenants.{Tenant, has_tenant, are_distinct, root_of}
 use Rattle.nx_paged.specs.Spans.{Each, spans_of}
@@ -19,10 +19,10 @@ pub both_true : (a b : Bool) → (not a && b) ≡ true → (a ≡ false) × (b �
 both_true true b h = absurd cc
 both_true false b h = (refl, h)
 
-pub tenant_view : (ram : List ℕ) (plan : Plan) (ts : List Tenant) (number : ℕ) → has_view (map (paged_group ram plan) ts) number ≡ has_tenant ts number
+pub tenant_view : (ram : List ℕ) (memory_map : MemoryMap) (ts : List Tenant) (number : ℕ) → has_view (map (paged_group ram memory_map) ts) number ≡ has_tenant ts number
 unfolding has_view has_tenant
-tenant_view ram plan [] number = refl
-tenant_view ram plan (t ∷ ts) number = ap (λ b. (t.number == number) || b) (tenant_view ram plan ts number)
+tenant_view ram memory_map [] number = refl
+tenant_view ram memory_map (t ∷ ts) number = ap (λ b. (t.number == number) || b) (tenant_view ram memory_map ts number)
 
 -- the group, a fact of it, and what stands in the list by it
 pub record Found (P : Tenant → Type 0) (ts : List Tenant) (number : ℕ) : Type 0 where
@@ -30,8 +30,8 @@ pub record Found (P : Tenant → Type 0) (ts : List Tenant) (number : ℕ) : Typ
   pub ok : P tenant
   pub number_is : tenant.number ≡ number
   pub root_is : root_of ts number ≡ tenant.root
-  pub group_is : (ram : List ℕ) (plan : Plan) → group_of (map (paged_group ram plan) ts) number ≡ paged_group ram plan tenant
-  pub shown : (ram : List ℕ) (plan : Plan) (k : ℕ) → in_spans ram tenant.root (spans_of plan tenant.program tenant.slots) k ≡ true → is_shown ram plan ts k ≡ true
+  pub group_is : (ram : List ℕ) (memory_map : MemoryMap) → group_of (map (paged_group ram memory_map) ts) number ≡ paged_group ram memory_map tenant
+  pub shown : (ram : List ℕ) (memory_map : MemoryMap) (k : ℕ) → in_spans ram tenant.root (spans_of memory_map tenant.program tenant.slots) k ≡ true → is_shown ram memory_map ts k ≡ true
   -- a change of this group's bytes alone
   pub changed : (old new : Tenant → Group) (own : List (List ℕ)) → are_distinct ts ≡ true → ((t : Tenant) → (old t).number ≡ t.number) → new tenant ≡ record (old tenant) { own = own } → ((t : Tenant) → P t → t.number ≢ number → new t ≡ old t) → map new ts ≡ with_own own (map old ts) number
 
@@ -72,8 +72,8 @@ find_tenant P (t ∷ ts) number ok h = by_test (t.number == number) refl h (λ q
       ok = ok.0;
       number_is = is_number e;
       root_is = ap (λ b. if b then t.root else root_of ts number) e;
-      group_is = λ ram plan. ap (λ b. if b then paged_group ram plan t else group_of (map (paged_group ram plan) ts) number) e;
-      shown = λ ram plan k s. ap (λ b. b || is_shown ram plan ts k) s;
+      group_is = λ ram memory_map. ap (λ b. if b then paged_group ram memory_map t else group_of (map (paged_group ram memory_map) ts) number) e;
+      shown = λ ram memory_map k s. ap (λ b. b || is_shown ram memory_map ts k) s;
       changed = λ old new own once n is same.
           ap (λ gs. new t ∷ gs) (same_others P old new ts number ok.1 (ap (has_tenant ts) (sym (is_number e)) ∙ (both_true (has_tenant ts t.number) (are_distinct ts) once).0) same)
           ∙ ap (λ g. g ∷ map old ts) is
@@ -84,8 +84,8 @@ find_tenant P (t ∷ ts) number ok h = by_test (t.number == number) refl h (λ q
       ok = r.ok;
       number_is = r.number_is;
       root_is = ap (λ b. if b then t.root else root_of ts number) e ∙ r.root_is;
-      group_is = λ ram plan. ap (λ b. if b then paged_group ram plan t else group_of (map (paged_group ram plan) ts) number) e ∙ r.group_is ram plan;
-      shown = λ ram plan k s. ap (λ b. in_spans ram t.root (spans_of plan t.program t.slots) k || b) (r.shown ram plan k s) ∙ or_right (in_spans ram t.root (spans_of plan t.program t.slots) k);
+      group_is = λ ram memory_map. ap (λ b. if b then paged_group ram memory_map t else group_of (map (paged_group ram memory_map) ts) number) e ∙ r.group_is ram memory_map;
+      shown = λ ram memory_map k s. ap (λ b. in_spans ram t.root (spans_of memory_map t.program t.slots) k || b) (r.shown ram memory_map k s) ∙ or_right (in_spans ram t.root (spans_of memory_map t.program t.slots) k);
       changed = λ old new own once n is same.
           ap (λ gs. new t ∷ gs) (r.changed old new own (both_true (has_tenant ts t.number) (are_distinct ts) once).1 n is same)
           ∙ ap (λ g. g ∷ with_own own (map old ts) number) (same t ok.0 (no_number e))

@@ -9,7 +9,7 @@ use Rattle.nx_base.specs.declared.access.Access.TheVariants.{Load}
 use Rattle.nx_sv32.specs.Walk.{ram_start, walk}
 use Rattle.nx_tables.specs.Maps.{satp_of}
 use Rattle.nx_tables.specs.Seen.{byte_by, seen}
-use Rattle.nx_space.specs.World.{Home, Common, Own, Group, Plan, has_view, group_of, bytes_in, seen_by}
+use Rattle.nx_space.specs.World.{Home, Common, Own, Group, MemoryMap, has_view, group_of, bytes_in, seen_by}
 use Rattle.nx_space.specs.Lawful.{IsApartFrom, AreParts, AreOwn, AreNumbered, IsAlone, IsWorld}
 use Rattle.nx_space.specs.Starts.{frames_for, needs}
 use Rattle.nx_paged.specs.Tenants.{Tenant, has_tenant, are_distinct, frames_taken}
@@ -59,31 +59,31 @@ tenant_laid_out s t h k = group_laid_out (paged_plan s) t.program t.slots (fits_
 
 group_alone : (s : Paging) (t : Tenant) → IsPlaced s → IsTenant (paged_plan s) t → IsAlone (paged_plan s) (take s.pool s.ram ∷ []) (paged_group s.ram (paged_plan s) t)
 group_alone s t h k =
-    let plan = paged_plan s in
-    let spans = spans_of plan t.program t.slots in
+    let memory_map = paged_plan s in
+    let spans = spans_of memory_map t.program t.slots in
     let a = tenant_laid_out s t h k in
     record {
       parts = parts_lie (take s.pool s.ram ∷ []) [] (span_bytes s.ram t.root) spans (λ x. length-seen s.ram (satp_of t.root) x.start x.bytes);
       own = parts_own 0 spans;
-      stacks = λ slot has. stack_held plan t.program t.slots slot (fits_stacks s h) a.apart has;
-      contents = λ some. data_held plan t.program t.slots a.apart some;
+      stacks = λ slot has. stack_held memory_map t.program t.slots slot (fits_stacks s h) a.apart has;
+      contents = λ some. data_held memory_map t.program t.slots a.apart some;
     }
 
 pub view_alone : (s : Paging) (number : ℕ) → IsPlaced s → has_view (paged_world s).groups number ≡ true → IsAlone (paged_plan s) (paged_world s).common (group_of (paged_world s).groups number)
 view_alone s number h v =
-    let plan = paged_plan s in
-    let f = find_tenant (IsTenant plan) s.tenants number (each_of (IsTenant plan) s.tenants h.tenants) (sym (tenant_view s.ram plan s.tenants number) ∙ v) in
-    subst (IsAlone plan (paged_world s).common) (sym (f.group_is s.ram plan)) (group_alone s f.tenant h f.ok)
+    let memory_map = paged_plan s in
+    let f = find_tenant (IsTenant memory_map) s.tenants number (each_of (IsTenant memory_map) s.tenants h.tenants) (sym (tenant_view s.ram memory_map s.tenants number) ∙ v) in
+    subst (IsAlone memory_map (paged_world s).common) (sym (f.group_is s.ram memory_map)) (group_alone s f.tenant h f.ok)
 
-groups_numbered : (ram : List ℕ) (plan : Plan) (ts : List Tenant) → are_distinct ts ≡ true → AreNumbered (map (paged_group ram plan) ts)
-groups_numbered ram plan [] h = tt
-groups_numbered ram plan (t ∷ ts) h = let b = both_true (has_tenant ts t.number) (are_distinct ts) h in (tenant_view ram plan ts t.number ∙ b.0, groups_numbered ram plan ts b.1)
+groups_numbered : (ram : List ℕ) (memory_map : MemoryMap) (ts : List Tenant) → are_distinct ts ≡ true → AreNumbered (map (paged_group ram memory_map) ts)
+groups_numbered ram memory_map [] h = tt
+groups_numbered ram memory_map (t ∷ ts) h = let b = both_true (has_tenant ts t.number) (are_distinct ts) h in (tenant_view ram memory_map ts t.number ∙ b.0, groups_numbered ram memory_map ts b.1)
 
 -- the frames of all groups
-pub needs_taken : (ram : List ℕ) (plan : Plan) (ts : List Tenant) → needs plan (map (paged_group ram plan) ts) ≡ frames_taken plan ts
+pub needs_taken : (ram : List ℕ) (memory_map : MemoryMap) (ts : List Tenant) → needs memory_map (map (paged_group ram memory_map) ts) ≡ frames_taken memory_map ts
 unfolding needs frames_taken
-needs_taken ram plan [] = refl
-needs_taken ram plan (t ∷ ts) = ap (λ n. frames_for plan t.program t.slots + n) (needs_taken ram plan ts)
+needs_taken ram memory_map [] = refl
+needs_taken ram memory_map (t ∷ ts) = ap (λ n. frames_for memory_map t.program t.slots + n) (needs_taken ram memory_map ts)
 
 pub paged_lawful : (s : Paging) → IsPlaced s → IsWorld (paged_world s)
 paged_lawful s h = record {
@@ -116,16 +116,16 @@ spans_small f [] k h = subst AreBytes (sym (get_or_past {X = List ℕ} [] k [] (
 spans_small f (s ∷ ss) zero h = h s
 spans_small f (s ∷ ss) (suc k) h = spans_small f ss k h
 
-groups_small : (ram : List ℕ) (plan : Plan) (ts : List Tenant) (number k : ℕ) → AreBytes ram → AreBytes (bytes_in (group_of (map (paged_group ram plan) ts) number).own k)
+groups_small : (ram : List ℕ) (memory_map : MemoryMap) (ts : List Tenant) (number k : ℕ) → AreBytes ram → AreBytes (bytes_in (group_of (map (paged_group ram memory_map) ts) number).own k)
 unfolding group_of
-groups_small ram plan [] number k h = subst AreBytes (sym (get_or_past {X = List ℕ} [] k [] (omega arith))) no_bytes
-groups_small ram plan (t ∷ ts) number k h = by_test (t.number == number) (groups_small ram plan ts number k h)
+groups_small ram memory_map [] number k h = subst AreBytes (sym (get_or_past {X = List ℕ} [] k [] (omega arith))) no_bytes
+groups_small ram memory_map (t ∷ ts) number k h = by_test (t.number == number) (groups_small ram memory_map ts number k h)
   where
     rest : Group
-    rest = group_of (map (paged_group ram plan) ts) number
+    rest = group_of (map (paged_group ram memory_map) ts) number
 
-    by_test : (b : Bool) → AreBytes (bytes_in rest.own k) → AreBytes (bytes_in (if b then paged_group ram plan t else rest).own k)
-    by_test true more = spans_small (span_bytes ram t.root) (spans_of plan t.program t.slots) k (λ s. seen_small ram (satp_of t.root) s.start s.bytes h)
+    by_test : (b : Bool) → AreBytes (bytes_in rest.own k) → AreBytes (bytes_in (if b then paged_group ram memory_map t else rest).own k)
+    by_test true more = spans_small (span_bytes ram t.root) (spans_of memory_map t.program t.slots) k (λ s. seen_small ram (satp_of t.root) s.start s.bytes h)
     by_test false more = more
 
 take_small : (n : ℕ) (bs : List ℕ) → AreBytes bs → AreBytes (take n bs)

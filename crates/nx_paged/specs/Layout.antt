@@ -5,7 +5,7 @@ use Rattle.std.specs.List.{All, list_any}
 use Rattle.std.proofs.lemmas.Bool.{cases_lt}
 use Rattle.std.proofs.lemmas.Bool.Decides.{nat_tests}
 use Rattle.nx_ram.specs.declared.prog_image.ProgImage.{ProgImage}
-use Rattle.nx_space.specs.World.{Plan}
+use Rattle.nx_space.specs.World.{MemoryMap}
 use Rattle.nx_space.specs.Places.{lies_in, place_in, written_at, is_clear}
 use Rattle.nx_space.specs.Starts.{no_program, program_at, stack_low, pages_of, has_slot}
 use Rattle.nx_paged.specs.Tenants.{are_once}
@@ -64,20 +64,20 @@ all_fine low high [] h = tt
 all_fine low high (x ∷ xs) h = (h.0.fine, all_fine low high xs h.1)
 
 -- what is asked of stacks: slot 0's at 0x40000000, each 2 MiB after the one before, and 1 MiB at most
-pub record FitsStacks (plan : Plan) : Type 0 where
-  pub at : plan.stacks_at ≡ 0x40000000
-  pub stride : plan.stride ≡ 0x200000
-  pub one : 1 ≤ plan.stack
-  pub whole : plan.stack % 4096 ≡ 0
-  pub most : plan.stack ≤ 0x100000
-  pub few : plan.threads ≤ 64
+pub record FitsStacks (memory_map : MemoryMap) : Type 0 where
+  pub at : memory_map.stacks_at ≡ 0x40000000
+  pub stride : memory_map.stride ≡ 0x200000
+  pub one : 1 ≤ memory_map.stack
+  pub whole : memory_map.stack % 4096 ≡ 0
+  pub most : memory_map.stack ≤ 0x100000
+  pub few : memory_map.threads ≤ 64
 
-low_is : (plan : Plan) (slot : ℕ) → FitsStacks plan → stack_low plan slot ≡ 0x40000000 + slot * 0x200000
-low_is plan slot f = ap (λ n. n + slot * plan.stride) f.at ∙ ap (λ n. 0x40000000 + slot * n) f.stride
+low_is : (memory_map : MemoryMap) (slot : ℕ) → FitsStacks memory_map → stack_low memory_map slot ≡ 0x40000000 + slot * 0x200000
+low_is memory_map slot f = ap (λ n. n + slot * memory_map.stride) f.at ∙ ap (λ n. 0x40000000 + slot * n) f.stride
 
-pub stack_within : (plan : Plan) (slot : ℕ) → FitsStacks plan → slot < plan.threads → IsWithin 0x40000000 0x48000000 (stack_span plan slot)
-stack_within plan slot f l =
-    let low = low_is plan slot f in
+pub stack_within : (memory_map : MemoryMap) (slot : ℕ) → FitsStacks memory_map → slot < memory_map.threads → IsWithin 0x40000000 0x48000000 (stack_span memory_map slot)
+stack_within memory_map slot f l =
+    let low = low_is memory_map slot f in
     let most = f.most in
     let few = f.few in
     record {
@@ -86,62 +86,62 @@ stack_within plan slot f l =
       high_is = omega (arith, low, most, few, l);
     }
 
-pub stacks_within : (plan : Plan) (slots : List ℕ) → FitsStacks plan → All (λ slot. slot < plan.threads) slots → Each (IsWithin 0x40000000 0x48000000) (stack_spans plan slots)
-stacks_within plan [] f h = tt
-stacks_within plan (slot ∷ slots) f h = (stack_within plan slot f (h 0 slot (omega arith)), stacks_within plan slots f (λ k d l. h (suc k) d (omega (arith, l))))
+pub stacks_within : (memory_map : MemoryMap) (slots : List ℕ) → FitsStacks memory_map → All (λ slot. slot < memory_map.threads) slots → Each (IsWithin 0x40000000 0x48000000) (stack_spans memory_map slots)
+stacks_within memory_map [] f h = tt
+stacks_within memory_map (slot ∷ slots) f h = (stack_within memory_map slot f (h 0 slot (omega arith)), stacks_within memory_map slots f (λ k d l. h (suc k) d (omega (arith, l))))
 
-both_apart : (plan : Plan) (a b : ℕ) → FitsStacks plan → a ≢ b → IsApart (stack_span plan a) (stack_span plan b)
-both_apart plan a b f ne =
-    let x = low_is plan a f in
-    let y = low_is plan b f in
+both_apart : (memory_map : MemoryMap) (a b : ℕ) → FitsStacks memory_map → a ≢ b → IsApart (stack_span memory_map a) (stack_span memory_map b)
+both_apart memory_map a b f ne =
+    let x = low_is memory_map a f in
+    let y = low_is memory_map b f in
     let most = f.most in
     ⊎_elim (λ l. inl (omega (arith, x, y, most, l))) (λ l. inr (omega (arith, x, y, most, l, ne))) (cases_lt a b)
 
-pub new_apart : (plan : Plan) (slot : ℕ) (slots : List ℕ) → FitsStacks plan → has_slot slots slot ≡ false → Each (IsApart (stack_span plan slot)) (stack_spans plan slots)
-new_apart plan slot [] f h = tt
-new_apart plan slot (s ∷ ss) f h = by_test (s == slot) refl h (λ q. new_apart plan slot ss f q)
+pub new_apart : (memory_map : MemoryMap) (slot : ℕ) (slots : List ℕ) → FitsStacks memory_map → has_slot slots slot ≡ false → Each (IsApart (stack_span memory_map slot)) (stack_spans memory_map slots)
+new_apart memory_map slot [] f h = tt
+new_apart memory_map slot (s ∷ ss) f h = by_test (s == slot) refl h (λ q. new_apart memory_map slot ss f q)
   where
     differs : (s == slot) ≡ false → slot ≢ s
     differs e = grind (arith, nat_tests)
 
-    by_test : (b : Bool) → (s == slot) ≡ b → (b || has_slot ss slot) ≡ false → (has_slot ss slot ≡ false → Each (IsApart (stack_span plan slot)) (stack_spans plan ss)) → Each (IsApart (stack_span plan slot)) (stack_spans plan (s ∷ ss))
+    by_test : (b : Bool) → (s == slot) ≡ b → (b || has_slot ss slot) ≡ false → (has_slot ss slot ≡ false → Each (IsApart (stack_span memory_map slot)) (stack_spans memory_map ss)) → Each (IsApart (stack_span memory_map slot)) (stack_spans memory_map (s ∷ ss))
     by_test true e q more = absurd cc
-    by_test false e q more = (both_apart plan slot s f (differs e), more q)
+    by_test false e q more = (both_apart memory_map slot s f (differs e), more q)
 
-pub stacks_apart : (plan : Plan) (slots : List ℕ) → FitsStacks plan → are_once slots ≡ true → AreApart (stack_spans plan slots)
-stacks_apart plan [] f h = tt
-stacks_apart plan (slot ∷ slots) f h = by_test (has_slot slots slot) refl h (λ q. stacks_apart plan slots f q)
+pub stacks_apart : (memory_map : MemoryMap) (slots : List ℕ) → FitsStacks memory_map → are_once slots ≡ true → AreApart (stack_spans memory_map slots)
+stacks_apart memory_map [] f h = tt
+stacks_apart memory_map (slot ∷ slots) f h = by_test (has_slot slots slot) refl h (λ q. stacks_apart memory_map slots f q)
   where
-    by_test : (b : Bool) → has_slot slots slot ≡ b → (not b && are_once slots) ≡ true → (are_once slots ≡ true → AreApart (stack_spans plan slots)) → AreApart (stack_spans plan (slot ∷ slots))
+    by_test : (b : Bool) → has_slot slots slot ≡ b → (not b && are_once slots) ≡ true → (are_once slots ≡ true → AreApart (stack_spans memory_map slots)) → AreApart (stack_spans memory_map (slot ∷ slots))
     by_test true e q more = absurd cc
-    by_test false e q more = (new_apart plan slot slots f e, more q)
+    by_test false e q more = (new_apart memory_map slot slots f e, more q)
 
 -- all windows of a group
 pub record AreLaidOut (spans : List Span) : Type 0 where
   pub fine : Each IsSpan spans
   pub apart : AreApart spans
 
-pub group_laid_out : (plan : Plan) (place : ℕ) (slots : List ℕ) → FitsStacks plan → IsLaidOut (program_at plan place) → are_once slots ≡ true → All (λ slot. slot < plan.threads) slots → AreLaidOut (spans_of plan place slots)
-group_laid_out plan place slots f p once h =
-    let q = program_at plan place in
+pub group_laid_out : (memory_map : MemoryMap) (place : ℕ) (slots : List ℕ) → FitsStacks memory_map → IsLaidOut (program_at memory_map place) → are_once slots ≡ true → All (λ slot. slot < memory_map.threads) slots → AreLaidOut (spans_of memory_map place slots)
+group_laid_out memory_map place slots f p once h =
+    let q = program_at memory_map place in
     let ta = p.text_at in
     let tx = p.text in
     let da = p.data_at in
     let ia = p.init in
     let text = bytes_within q.text_at false q.text 0x00010000 0x10000000 (omega (arith, ta)) (omega arith) (omega arith) (omega (arith, ta)) tx in
     let contents = bytes_within q.data_at true q.init 0x10000000 0x40000000 (omega (arith, da)) (omega arith) (omega arith) (omega (arith, da)) ia in
-    let stacks = stacks_within plan slots f h in
-    let tail = each_append (IsWithin 0x10000000 0x48000000) (span_of q.data_at true q.init) (stack_spans plan slots)
+    let stacks = stacks_within memory_map slots f h in
+    let tail = each_append (IsWithin 0x10000000 0x48000000) (span_of q.data_at true q.init) (stack_spans memory_map slots)
     (wider 0x10000000 0x10000000 0x40000000 0x48000000 (span_of q.data_at true q.init) (omega arith) (omega arith) contents)
-    (wider 0x40000000 0x10000000 0x48000000 0x48000000 (stack_spans plan slots) (omega arith) (omega arith) stacks) in
-    let tail_apart = apart_append (span_of q.data_at true q.init) (stack_spans plan slots) (one_apart q.data_at true q.init) (stacks_apart plan slots f once)
-    (ranges_apart 0x10000000 0x40000000 0x48000000 (span_of q.data_at true q.init) (stack_spans plan slots) contents stacks) in
+    (wider 0x40000000 0x10000000 0x48000000 0x48000000 (stack_spans memory_map slots) (omega arith) (omega arith) stacks) in
+    let tail_apart = apart_append (span_of q.data_at true q.init) (stack_spans memory_map slots) (one_apart q.data_at true q.init) (stacks_apart memory_map slots f once)
+    (ranges_apart 0x10000000 0x40000000 0x48000000 (span_of q.data_at true q.init) (stack_spans memory_map slots) contents stacks) in
     record {
-      fine = each_append IsSpan (span_of q.text_at false q.text) (span_of q.data_at true q.init ++ stack_spans plan slots)
+      fine = each_append IsSpan (span_of q.text_at false q.text) (span_of q.data_at true q.init ++ stack_spans memory_map slots)
           (all_fine 0x00010000 0x10000000 (span_of q.text_at false q.text) text)
-          (all_fine 0x10000000 0x48000000 (span_of q.data_at true q.init ++ stack_spans plan slots) tail);
-      apart = apart_append (span_of q.text_at false q.text) (span_of q.data_at true q.init ++ stack_spans plan slots) (one_apart q.text_at false q.text) tail_apart
-          (ranges_apart 0x00010000 0x10000000 0x48000000 (span_of q.text_at false q.text) (span_of q.data_at true q.init ++ stack_spans plan slots) text tail);
+          (all_fine 0x10000000 0x48000000 (span_of q.data_at true q.init ++ stack_spans memory_map slots) tail);
+      apart = apart_append (span_of q.text_at false q.text) (span_of q.data_at true q.init ++ stack_spans memory_map slots) (one_apart q.text_at false q.text) tail_apart
+          (ranges_apart 0x00010000 0x10000000 0x48000000 (span_of q.text_at false q.text) (span_of q.data_at true q.init ++ stack_spans memory_map slots) text tail);
     }
 
 -- a window is one of these
@@ -157,15 +157,15 @@ pub among_left : (s : Span) (xs ys : List Span) → IsAmong s xs → IsAmong s (
 among_left s [] ys h = absurd h
 among_left s (x ∷ xs) ys h = ⊎_elim (λ e. inl e) (λ r. inr (among_left s xs ys r)) h
 
-stack_among : (plan : Plan) (slot : ℕ) (slots : List ℕ) → list_any (λ s. s == slot) slots ≡ true → IsAmong (stack_span plan slot) (stack_spans plan slots)
-stack_among plan slot [] h = absurd cc
-stack_among plan slot (s ∷ ss) h = by_test (s == slot) refl h (λ q. stack_among plan slot ss q)
+stack_among : (memory_map : MemoryMap) (slot : ℕ) (slots : List ℕ) → list_any (λ s. s == slot) slots ≡ true → IsAmong (stack_span memory_map slot) (stack_spans memory_map slots)
+stack_among memory_map slot [] h = absurd cc
+stack_among memory_map slot (s ∷ ss) h = by_test (s == slot) refl h (λ q. stack_among memory_map slot ss q)
   where
     same : (s == slot) ≡ true → s ≡ slot
     same e = grind (arith, nat_tests)
 
-    by_test : (b : Bool) → (s == slot) ≡ b → (b || has_slot ss slot) ≡ true → (has_slot ss slot ≡ true → IsAmong (stack_span plan slot) (stack_spans plan ss)) → IsAmong (stack_span plan slot) (stack_spans plan (s ∷ ss))
-    by_test true e q more = inl (ap (stack_span plan) (same e))
+    by_test : (b : Bool) → (s == slot) ≡ b → (b || has_slot ss slot) ≡ true → (has_slot ss slot ≡ true → IsAmong (stack_span memory_map slot) (stack_spans memory_map ss)) → IsAmong (stack_span memory_map slot) (stack_spans memory_map (s ∷ ss))
+    by_test true e q more = inl (ap (stack_span memory_map) (same e))
     by_test false e q more = inr (more q)
 
 -- bytes of a window that may be written may be written
@@ -197,21 +197,21 @@ held_clear pool k (t ∷ ts) s at n a m w one low high =
     rw held (held_clear pool (k + 1) ts s at n a.1 r w one low high))
     m
 
-pub stack_held : (plan : Plan) (place : ℕ) (slots : List ℕ) (slot : ℕ) → FitsStacks plan → AreApart (spans_of plan place slots) → list_any (λ s. s == slot) slots ≡ true → is_clear plan.pool (written_at (parts_from 0 (spans_of plan place slots)) (stack_low plan slot) plan.stack) ≡ true
-stack_held plan place slots slot f a h =
-    let q = program_at plan place in
-    held_clear plan.pool 0 (spans_of plan place slots) (stack_span plan slot) (stack_low plan slot) plan.stack a
-    (among_right (stack_span plan slot) (span_of q.text_at false q.text) (span_of q.data_at true q.init ++ stack_spans plan slots) (among_right (stack_span plan slot) (span_of q.data_at true q.init) (stack_spans plan slots) (stack_among plan slot slots h)))
+pub stack_held : (memory_map : MemoryMap) (place : ℕ) (slots : List ℕ) (slot : ℕ) → FitsStacks memory_map → AreApart (spans_of memory_map place slots) → list_any (λ s. s == slot) slots ≡ true → is_clear memory_map.pool (written_at (parts_from 0 (spans_of memory_map place slots)) (stack_low memory_map slot) memory_map.stack) ≡ true
+stack_held memory_map place slots slot f a h =
+    let q = program_at memory_map place in
+    held_clear memory_map.pool 0 (spans_of memory_map place slots) (stack_span memory_map slot) (stack_low memory_map slot) memory_map.stack a
+    (among_right (stack_span memory_map slot) (span_of q.text_at false q.text) (span_of q.data_at true q.init ++ stack_spans memory_map slots) (among_right (stack_span memory_map slot) (span_of q.data_at true q.init) (stack_spans memory_map slots) (stack_among memory_map slot slots h)))
     refl f.one (omega arith) (omega arith)
 
 data_among : (at : ℕ) (bs : List ℕ) → 1 ≤ length bs → IsAmong (record { start = at; bytes = 4096 * pages_of (length bs); writes = true }) (span_of at true bs)
 data_among at [] h = absurd (omega (arith, h))
 data_among at (b ∷ bs) h = inl refl
 
-pub data_held : (plan : Plan) (place : ℕ) (slots : List ℕ) → AreApart (spans_of plan place slots) → 1 ≤ length (program_at plan place).init → is_clear plan.pool (written_at (parts_from 0 (spans_of plan place slots)) (program_at plan place).data_at (length (program_at plan place).init)) ≡ true
-data_held plan place slots a h =
-    let q = program_at plan place in
+pub data_held : (memory_map : MemoryMap) (place : ℕ) (slots : List ℕ) → AreApart (spans_of memory_map place slots) → 1 ≤ length (program_at memory_map place).init → is_clear memory_map.pool (written_at (parts_from 0 (spans_of memory_map place slots)) (program_at memory_map place).data_at (length (program_at memory_map place).init)) ≡ true
+data_held memory_map place slots a h =
+    let q = program_at memory_map place in
     let s : Span = record { start = q.data_at; bytes = 4096 * pages_of (length q.init); writes = true } in
-    held_clear plan.pool 0 (spans_of plan place slots) s q.data_at (length q.init) a
-    (among_right s (span_of q.text_at false q.text) (span_of q.data_at true q.init ++ stack_spans plan slots) (among_left s (span_of q.data_at true q.init) (stack_spans plan slots) (data_among q.data_at q.init h)))
+    held_clear memory_map.pool 0 (spans_of memory_map place slots) s q.data_at (length q.init) a
+    (among_right s (span_of q.text_at false q.text) (span_of q.data_at true q.init ++ stack_spans memory_map slots) (among_left s (span_of q.data_at true q.init) (stack_spans memory_map slots) (data_among q.data_at q.init h)))
     refl h (omega arith) (omega arith)

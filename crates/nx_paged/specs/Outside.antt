@@ -3,7 +3,7 @@ use Rattle.std.specs.Prelude.{ℕ, zero, suc, ◌+◌, ◌-◌, ◌==◌, Bool, 
 use Rattle.nx_base.specs.declared.access.Access.TheVariants.{Load}
 use Rattle.nx_sv32.specs.Walk.{ram_start, walk}
 use Rattle.nx_tables.specs.Maps.{satp_of}
-use Rattle.nx_space.specs.World.{Plan}
+use Rattle.nx_space.specs.World.{MemoryMap}
 use Rattle.nx_paged.specs.Tenants.{Tenant}
 use Rattle.nx_paged.specs.Spans.{Span, spans_of}
 
@@ -22,9 +22,9 @@ in_spans ram root [] k = false
 in_spans ram root (s ∷ ss) k = is_seen ram (satp_of root) s.start s.bytes k || in_spans ram root ss k
 
 -- it is shown by a window of one of these groups
-unfoldable pub is_shown : List ℕ → Plan → List Tenant → ℕ → Bool
-is_shown ram plan [] k = false
-is_shown ram plan (t ∷ ts) k = in_spans ram t.root (spans_of plan t.program t.slots) k || is_shown ram plan ts k
+unfoldable pub is_shown : List ℕ → MemoryMap → List Tenant → ℕ → Bool
+is_shown ram memory_map [] k = false
+is_shown ram memory_map (t ∷ ts) k = in_spans ram t.root (spans_of memory_map t.program t.slots) k || is_shown ram memory_map ts k
 
 -- of n bytes of the RAM from a place on, those for which a test fails
 unfoldable pub bytes_without : (ℕ → Bool) → List ℕ → ℕ → ℕ → List ℕ
@@ -32,5 +32,5 @@ bytes_without test ram k zero = []
 bytes_without test ram k (suc n) = if test k then bytes_without test ram (k + 1) n else slice_index ram k ∷ bytes_without test ram (k + 1) n
 
 -- the bytes after the pool that no window of a group shows
-abbrev pub outside_of : List ℕ → ℕ → Plan → List Tenant → List ℕ
-outside_of ram pool plan ts = bytes_without (is_shown ram plan ts) ram pool (length ram - pool)
+abbrev pub outside_of : List ℕ → ℕ → MemoryMap → List Tenant → List ℕ
+outside_of ram pool memory_map ts = bytes_without (is_shown ram memory_map ts) ram pool (length ram - pool)

@@ -7,7 +7,7 @@ use Rattle.nx_frames.specs.Stock.{Stock, AreHeld, frames_of}
 use Rattle.nx_sv32.specs.Walk.{ram_start}
 use Rattle.nx_tables.specs.Maps.{Maps}
 use Rattle.nx_tables.specs.Roles.{Role, Free, is_of, Stands}
-use Rattle.nx_space.specs.World.{Group, Plan, World}
+use Rattle.nx_space.specs.World.{Group, MemoryMap, World}
 use Rattle.nx_space.specs.Starts.{frames_for}
 use Rattle.nx_paged.specs.Tenants.{Tenant, are_distinct, are_once, frames_taken}
 use Rattle.nx_paged.specs.Spans.{Each, Shows, parts_from, span_bytes, spans_of}
@@ -26,7 +26,7 @@ pub record Paging : Type 0 where
   pub entered : ℕ
 
 -- slot 0's stack stands at 0x40000000, and each other one 2 MiB after the one before
-abbrev pub paged_plan : Paging → Plan
+abbrev pub paged_plan : Paging → MemoryMap
 paged_plan s = record {
   programs = s.programs;
   stacks_at = 0x40000000;
@@ -40,9 +40,9 @@ paged_plan s = record {
 }
 
 -- a group's windows show what the walk from its root gives
-abbrev pub paged_group : List ℕ → Plan → Tenant → Group
-paged_group ram plan t =
-    let spans = spans_of plan t.program t.slots in
+abbrev pub paged_group : List ℕ → MemoryMap → Tenant → Group
+paged_group ram memory_map t =
+    let spans = spans_of memory_map t.program t.slots in
     record {
       number = t.number;
       program = t.program;
@@ -54,7 +54,7 @@ paged_group ram plan t =
 
 abbrev pub paged_world : Paging → World
 paged_world s = record {
-  plan = paged_plan s;
+  memory_map = paged_plan s;
   common = take s.pool s.ram ∷ [];
   groups = map (paged_group s.ram (paged_plan s)) s.tenants;
   entered = s.entered;
@@ -64,7 +64,7 @@ paged_world s = record {
 -- the world where no group has started: all bytes after the pool are outside of the windows
 abbrev pub fresh_world : List ℕ → ℕ → List ProgImage → ℕ → ℕ → World
 fresh_world ram pool programs stack threads = record {
-  plan = record {
+  memory_map = record {
     programs = programs;
     stacks_at = 0x40000000;
     stack = stack;
@@ -102,10 +102,10 @@ pub record FitsPaged (size pool : ℕ) (programs : List ProgImage) (stack thread
   pub laid_out : All IsLaidOut programs
 
 -- a group has a program of the space, and stacks of different slots
-pub record IsTenant (plan : Plan) (t : Tenant) : Type 0 where
-  pub program : t.program < length plan.programs
+pub record IsTenant (memory_map : MemoryMap) (t : Tenant) : Type 0 where
+  pub program : t.program < length memory_map.programs
   pub once : are_once t.slots ≡ true
-  pub slots : All (λ slot. slot < plan.threads) t.slots
+  pub slots : All (λ slot. slot < memory_map.threads) t.slots
 
 -- what holds of all that without the tables
 pub record IsPlaced (s : Paging) : Type 0 where
@@ -125,13 +125,13 @@ pub record FrameAt (P : Role → Type 0) (roles : ℕ → Role) (a : ℕ) : Type
   pub role : P (roles frame)
 
 -- one group's tables stand in the RAM, and show its windows; the frames that it took are its own
-pub record IsLive (ram : List ℕ) (stock : Stock) (plan : Plan) (role : ℕ → Role) (t : Tenant) : Type 0 where
+pub record IsLive (ram : List ℕ) (stock : Stock) (memory_map : MemoryMap) (role : ℕ → Role) (t : Tenant) : Type 0 where
   pub maps : Maps
   pub root : maps.root ≡ t.root
   pub stands : Stands ram role t.number maps
-  pub shows : Shows maps (spans_of plan t.program t.slots)
+  pub shows : Shows maps (spans_of memory_map t.program t.slots)
   pub frames : Each (FrameAt (λ r. is_of t.number r ≡ true) role) (frames_of stock t.taken)
-  pub count : t.taken.count ≡ frames_for plan t.program t.slots
+  pub count : t.taken.count ≡ frames_for memory_map t.program t.slots
 
 -- each group's tables stand, and each frame of the stock is free or one group's
 pub record IsPaged (s : Paging) : Type 0 where

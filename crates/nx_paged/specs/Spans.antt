@@ -1,6 +1,6 @@
 -- The windows of a group: whole pages of its text, its data and its stacks.
 use Rattle.std.specs.Prelude.{◌≡◌, ℕ, ◌+◌, ◌*◌, ◌/◌, ◌%◌, ◌<◌, ◌≤◌, ◌⊎◌, Bool, true, false, not, ◌&&◌, nat_le, if◌then◌else◌, List, [], ◌∷◌, ◌++◌, length, Option, Some, None}
-use Rattle.nx_space.specs.World.{Own, Part, Plan}
+use Rattle.nx_space.specs.World.{Own, Part, MemoryMap}
 use Rattle.nx_space.specs.Starts.{program_at, stack_low, pages_of}
 use Rattle.nx_tables.specs.Maps.{Maps, satp_of}
 use Rattle.nx_tables.specs.Seen.{seen, IsMapped}
@@ -21,18 +21,18 @@ abbrev pub span_of : ℕ → Bool → List ℕ → List Span
 span_of at writes [] = []
 span_of at writes (b ∷ bytes) = record { start = at; bytes = 4096 * pages_of (length (b ∷ bytes)); writes = writes } ∷ []
 
-abbrev pub stack_span : Plan → ℕ → Span
-stack_span plan slot = record { start = stack_low plan slot; bytes = 4096 * pages_of plan.stack; writes = true }
+abbrev pub stack_span : MemoryMap → ℕ → Span
+stack_span memory_map slot = record { start = stack_low memory_map slot; bytes = 4096 * pages_of memory_map.stack; writes = true }
 
-abbrev pub stack_spans : Plan → List ℕ → List Span
-stack_spans plan [] = []
-stack_spans plan (slot ∷ slots) = stack_span plan slot ∷ stack_spans plan slots
+abbrev pub stack_spans : MemoryMap → List ℕ → List Span
+stack_spans memory_map [] = []
+stack_spans memory_map (slot ∷ slots) = stack_span memory_map slot ∷ stack_spans memory_map slots
 
 -- the windows of a program with the stacks of these slots
-abbrev pub spans_of : Plan → ℕ → List ℕ → List Span
-spans_of plan place slots =
-    let p = program_at plan place in
-    span_of p.text_at false p.text ++ (span_of p.data_at true p.init ++ stack_spans plan slots)
+abbrev pub spans_of : MemoryMap → ℕ → List ℕ → List Span
+spans_of memory_map place slots =
+    let p = program_at memory_map place in
+    span_of p.text_at false p.text ++ (span_of p.data_at true p.init ++ stack_spans memory_map slots)
 
 -- the k-th window of a group shows the k-th bytes of its own
 abbrev pub part_of : ℕ → Span → Part

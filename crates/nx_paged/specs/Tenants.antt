@@ -2,7 +2,7 @@
 use Rattle.std.specs.Prelude.{ℕ, suc, ◌+◌, ◌==◌, Bool, true, false, not, ◌&&◌, ◌||◌, if◌then◌else◌, List, [], ◌∷◌}
 use Rattle.nx_frames.specs.declared.frames.Taken.{Taken}
 use Rattle.nx_space.specs.Starts.{has_slot, frames_for}
-use Rattle.nx_space.specs.World.{Plan}
+use Rattle.nx_space.specs.World.{MemoryMap}
 
 -- a group's number, its program's place, the slot of its main thread, the frame of its root, the slots
 -- whose stacks it has, and the frames that it took
@@ -40,6 +40,6 @@ place_of [] number = 0
 place_of (t ∷ ts) number = if t.number == number then 0 else suc (place_of ts number)
 
 -- the frames of all groups
-unfoldable pub frames_taken : Plan → List Tenant → ℕ
-frames_taken plan [] = 0
-frames_taken plan (t ∷ ts) = frames_for plan t.program t.slots + frames_taken plan ts
+unfoldable pub frames_taken : MemoryMap → List Tenant → ℕ
+frames_taken memory_map [] = 0
+frames_taken memory_map (t ∷ ts) = frames_for memory_map t.program t.slots + frames_taken memory_map ts

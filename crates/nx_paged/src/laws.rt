@@ -28,8 +28,8 @@ pub fn a_paged_world_is_lawful(space: &PagedSpace)
 /// A law: with pages, a start takes exactly the frames that it needs, and the end of a group gives back
 /// exactly those that it had.
 pub fn frames_are_taken_and_given_back()
-    ensures start { (w new : World) (number program slot : ℕ) (fresh : Bool) → w.plan.is_paged ≡ true → start_need w.plan program slot ≤ free w → new ≡ but_outside (started w number program slot fresh) new → free new + start_need w.plan program slot ≡ free w }
-    ensures end { (w new : World) (number : ℕ) → IsWorld w → has_view w.groups number ≡ true → new ≡ but_outside (finished w number) new → free new ≡ free w + frames_of w.plan (group_of w.groups number) }
+    ensures start { (w new : World) (number program slot : ℕ) (fresh : Bool) → w.memory_map.is_paged ≡ true → start_need w.memory_map program slot ≤ free w → new ≡ but_outside (started w number program slot fresh) new → free new + start_need w.memory_map program slot ≡ free w }
+    ensures end { (w new : World) (number : ℕ) → IsWorld w → has_view w.groups number ≡ true → new ≡ but_outside (finished w number) new → free new ≡ free w + frames_of w.memory_map (group_of w.groups number) }
 {}
 
 /// A law: no byte of the RAM is in the pages of two groups, whatever they do with it.

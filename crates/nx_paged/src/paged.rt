@@ -186,13 +186,13 @@ impl PagedSpace {
     /// This answers the registers of its main thread.
     pub fn start(&mut self, group: u32, prog: usize, slot: u32, fresh: bool) -> Result<Regs, TooFew>
         requires new { has_view (world_of self.old).groups group ≡ false }
-        requires room { length (world_of self.old).groups < (world_of self.old).plan.threads }
-        requires prog { prog < length (world_of self.old).plan.programs }
-        requires slot { slot < (world_of self.old).plan.threads }
-        ensures regs { IfOk result (λ regs. regs ≡ start_regs (world_of self.old).plan prog slot) }
+        requires room { length (world_of self.old).groups < (world_of self.old).memory_map.threads }
+        requires prog { prog < length (world_of self.old).memory_map.programs }
+        requires slot { slot < (world_of self.old).memory_map.threads }
+        ensures regs { IfOk result (λ regs. regs ≡ start_regs (world_of self.old).memory_map prog slot) }
         ensures started { OnOk result (world_of self.new ≡ but_outside (started (world_of self.old) group prog slot fresh) (world_of self.new)) }
-        ensures enough { OnOk result (start_need (world_of self.old).plan prog slot ≤ free (world_of self.old)) }
-        ensures too_few { IfErr result (λ few. (few ≡ record { need = start_need (world_of self.old).plan prog slot; free = free (world_of self.old) }) × (few.free < few.need)) }
+        ensures enough { OnOk result (start_need (world_of self.old).memory_map prog slot ≤ free (world_of self.old)) }
+        ensures too_few { IfErr result (λ few. (few ≡ record { need = start_need (world_of self.old).memory_map prog slot; free = free (world_of self.old) }) × (few.free < few.need)) }
         ensures refused { OnErr result (world_of self.new ≡ world_of self.old) }
     {
         let _always = fresh;

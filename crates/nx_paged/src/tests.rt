@@ -43,8 +43,8 @@ fn program(alloc: Global, init: &[u8]) -> Result<ProgImage, OutOfMemory>
 fn board(alloc: Global, init: &[u8]) -> Result<PagedSpace, OutOfMemory>
     requires { length init.now ≤ 4096 }
     ensures groups { IfOk result (λ space. (world_of space).groups ≡ []) }
-    ensures threads { IfOk result (λ space. (world_of space).plan.threads ≡ 4) }
-    ensures programs { IfOk result (λ space. length (world_of space).plan.programs ≡ 1) }
+    ensures threads { IfOk result (λ space. (world_of space).memory_map.threads ≡ 4) }
+    ensures programs { IfOk result (λ space. length (world_of space).memory_map.programs ≡ 1) }
 {
     let ram = ram_of(alloc, 0x10000)?;
     let mut programs = Vec::new(alloc);
@@ -55,8 +55,8 @@ fn board(alloc: Global, init: &[u8]) -> Result<PagedSpace, OutOfMemory>
 // A RAM of five frames without a pool.
 fn small_board(alloc: Global) -> Result<PagedSpace, OutOfMemory>
     ensures groups { IfOk result (λ space. (world_of space).groups ≡ []) }
-    ensures threads { IfOk result (λ space. (world_of space).plan.threads ≡ 4) }
-    ensures programs { IfOk result (λ space. length (world_of space).plan.programs ≡ 1) }
+    ensures threads { IfOk result (λ space. (world_of space).memory_map.threads ≡ 4) }
+    ensures programs { IfOk result (λ space. length (world_of space).memory_map.programs ≡ 1) }
 {
     let ram = ram_of(alloc, 0x5000)?;
     let mut programs = Vec::new(alloc);

@@ -1,7 +1,7 @@
 -- Which groups have a view after a start, in every world.
 use Rattle.std.proofs.Common.{◌≡◌, ℕ, ◌==◌, Bool, true, false, ◌||◌, List, [], ◌∷◌, ◌++◌, length, Option, Some, None, refl, sym, ap, ◌∙◌, replicate}
 use Rattle.std.specs.Prelude.{if◌then◌else◌}
-use Rattle.nx_space.specs.World.{Home, Common, Own, Part, Group, Plan, World, has_view, group_of}
+use Rattle.nx_space.specs.World.{Home, Common, Own, Part, Group, MemoryMap, World, has_view, group_of}
 use Rattle.nx_space.specs.Places.{Place, written_at, put_home, put_into}
 use Rattle.nx_space.specs.Starts.{program_at, stack_low, put_or, put_seen, set_data, with_group, paged_start, shared_start, started, but_outside}
 use Rattle.nx_space.proofs.Groups.{own_view, last_view, before_last, same_number}
@@ -14,7 +14,7 @@ home_views w number (Own k) i xs m = own_view _ w.groups number m
 
 -- what bytes that are put leave
 record IsSeen (w v : World) : Type 0 where
-  plan : v.plan ≡ w.plan
+  memory_map : v.memory_map ≡ w.memory_map
   views : (m : ℕ) → has_view v.groups m ≡ has_view w.groups m
   parts : (m : ℕ) → (group_of v.groups m).parts ≡ (group_of w.groups m).parts
 
@@ -23,8 +23,8 @@ unfolding put_seen
 seen w number ps at xs = by_place (written_at ps at (length xs))
   where
     by_place : (o : Option Place) → IsSeen w (put_or w number o xs)
-    by_place None = record { plan = refl; views = λ m. refl; parts = λ m. refl }
-    by_place (Some pl) = record { plan = put_plan w number pl.home pl.at xs; views = home_views w number pl.home pl.at xs; parts = put_parts w number pl.home pl.at xs }
+    by_place None = record { memory_map = refl; views = λ m. refl; parts = λ m. refl }
+    by_place (Some pl) = record { memory_map = put_plan w number pl.home pl.at xs; views = home_views w number pl.home pl.at xs; parts = put_parts w number pl.home pl.at xs }
 
 -- a start puts a group of its number after the others
 record IsAdded (w u : World) (number : ℕ) : Type 0 where
@@ -36,32 +36,32 @@ record IsAdded (w u : World) (number : ℕ) : Type 0 where
 
 added : (w : World) (number place slot : ℕ) (fresh : Bool) → IsAdded w (started w number place slot fresh) number
 unfolding started
-added w number place slot fresh = by_pages w.plan.is_paged
+added w number place slot fresh = by_pages w.memory_map.is_paged
   where
     ready : Bool → World
-    ready b = if b then set_data w number w.plan.shared place else w
+    ready b = if b then set_data w number w.memory_map.shared place else w
 
     set : (b : Bool) → IsSeen w (ready b)
-    set true = seen w number w.plan.shared (program_at w.plan place).data_at (program_at w.plan place).init
-    set false = record { plan = refl; views = λ m. refl; parts = λ m. refl }
+    set true = seen w number w.memory_map.shared (program_at w.memory_map place).data_at (program_at w.memory_map place).init
+    set false = record { memory_map = refl; views = λ m. refl; parts = λ m. refl }
 
     zeroed : World
-    zeroed = put_seen (ready fresh) number w.plan.shared (stack_low (ready fresh).plan slot) (replicate (ready fresh).plan.stack 0)
+    zeroed = put_seen (ready fresh) number w.memory_map.shared (stack_low (ready fresh).memory_map slot) (replicate (ready fresh).memory_map.stack 0)
 
     both : IsSeen w zeroed
     both =
         let a = set fresh in
-        let b = seen (ready fresh) number w.plan.shared (stack_low (ready fresh).plan slot) (replicate (ready fresh).plan.stack 0) in
-        record { plan = b.plan ∙ a.plan; views = λ m. b.views m ∙ a.views m; parts = λ m. b.parts m ∙ a.parts m }
+        let b = seen (ready fresh) number w.memory_map.shared (stack_low (ready fresh).memory_map slot) (replicate (ready fresh).memory_map.stack 0) in
+        record { memory_map = b.memory_map ∙ a.memory_map; views = λ m. b.views m ∙ a.views m; parts = λ m. b.parts m ∙ a.parts m }
 
     by_pages : (b : Bool) → IsAdded w (if b then paged_start w number place slot else shared_start w number place slot fresh) number
-    by_pages true = record { before = w; group = _; kept = record { plan = refl; views = λ m. refl; parts = λ m. refl }; is = refl; named = refl }
+    by_pages true = record { before = w; group = _; kept = record { memory_map = refl; views = λ m. refl; parts = λ m. refl }; is = refl; named = refl }
     by_pages false = record { before = zeroed; group = _; kept = both; is = refl; named = refl }
 
-pub started_plan : (w new : World) (number place slot : ℕ) (fresh : Bool) → IsStart w new number place slot fresh → new.plan ≡ w.plan
+pub started_plan : (w new : World) (number place slot : ℕ) (fresh : Bool) → IsStart w new number place slot fresh → new.memory_map ≡ w.memory_map
 started_plan w new number place slot fresh e =
     let a = added w number place slot fresh in
-    ap (λ x. x.plan) e ∙ outside_plan (started w number place slot fresh) new ∙ ap (λ x. x.plan) a.is ∙ a.kept.plan
+    ap (λ x. x.memory_map) e ∙ outside_plan (started w number place slot fresh) new ∙ ap (λ x. x.memory_map) a.is ∙ a.kept.memory_map
 
 pub started_has_view : (w new : World) (number place slot : ℕ) (fresh : Bool) → IsStart w new number place slot fresh → has_view new.groups number ≡ true
 started_has_view w new number place slot fresh e =

@@ -7,7 +7,7 @@ use Rattle.std.proofs.lemmas.List.{map-append, length-replicate}
 use Rattle.nx_base.specs.ByteLists.{put_bytes}
 use Rattle.nx_base.proofs.Puts.{put_bytes-none}
 use Rattle.nx_space.specs.declared.shared.Live.{Live}
-use Rattle.nx_space.specs.World.{Home, Common, Part, Plan, World, has_view, group_of}
+use Rattle.nx_space.specs.World.{Home, Common, Part, MemoryMap, World, has_view, group_of}
 use Rattle.nx_space.specs.Places.{Place, lies_in, place_in, written_at, is_clear}
 use Rattle.nx_space.specs.Lawful.{MayHold, IsShared}
 use Rattle.nx_space.specs.Starts.{program_at, stack_low, frames_for, start_need, grow_need, program_of, start_regs, thread_regs, put_or, put_seen, set_data, zero_stack, with_group, started, grown, finished, without}
@@ -30,10 +30,10 @@ straight_place may (p ∷ ps) at n pl s e = by_test (lies_in p at n) refl (may p
     by_test true h false e more = absurd cc
     by_test false h c e more = more e
 
-pub held_place : (plan : Plan) (ps : List Part) (at n : ℕ) → AreStraight ps → MayHold plan ps at n → written_at ps at n ≡ spot (Some (at - ram_start))
-held_place plan ps at n s h = by_place (written_at ps at n) refl h
+pub held_place : (memory_map : MemoryMap) (ps : List Part) (at n : ℕ) → AreStraight ps → MayHold memory_map ps at n → written_at ps at n ≡ spot (Some (at - ram_start))
+held_place memory_map ps at n s h = by_place (written_at ps at n) refl h
   where
-    by_place : (o : Option Place) → written_at ps at n ≡ o → is_clear plan.pool o ≡ true → o ≡ spot (Some (at - ram_start))
+    by_place : (o : Option Place) → written_at ps at n ≡ o → is_clear memory_map.pool o ≡ true → o ≡ spot (Some (at - ram_start))
     by_place None e h = absurd cc
     by_place (Some pl) e h = sym (straight_place (λ p. p.writes) ps at n pl s e)
 

@@ -134,7 +134,7 @@ kept_finish s lives i h l is = record {
   known = subst (AreKnown (length s.programs)) (sym is) (known_removed (length s.programs) s.live i h.known);
 }
 
--- the registers are those of the plan
+-- the registers are those of the memory map
 pub start_regs_shared : (s : Sharing) (place slot low : ℕ) (p : ProgImage) → p ≡ slice_index_or s.programs place no_program → low ≡ s.stacks_at + slot * s.stack → regs_with p.end_group low (low + s.stack) p.main ≡ start_regs (shared_plan [] 0 s) place slot
 unfolding start_regs
 start_regs_shared s place slot low p e f =

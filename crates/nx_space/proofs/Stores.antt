@@ -13,9 +13,9 @@ use Rattle.nx_space.proofs.Windows.{AreLaid, laid, IsPut, cases_home, find_parts
 
 -- the windows of each group lie in their bytes, and apart
 pub lawful_parts : (w : World) (number : ℕ) → IsWorld w → has_view w.groups number ≡ true → AreParts w.common (group_of w.groups number).own (group_of w.groups number).parts
-lawful_parts w number h v = by_pages w.plan.is_paged refl
+lawful_parts w number h v = by_pages w.memory_map.is_paged refl
   where
-    by_pages : (b : Bool) → w.plan.is_paged ≡ b → AreParts w.common (group_of w.groups number).own (group_of w.groups number).parts
+    by_pages : (b : Bool) → w.memory_map.is_paged ≡ b → AreParts w.common (group_of w.groups number).own (group_of w.groups number).parts
     by_pages true e = (h.alone e number v).parts
     by_pages false e =
         let a = h.alike e number v in
@@ -25,13 +25,13 @@ pub lawful_laid : (w : World) (number : ℕ) → IsWorld w → has_view w.groups
 lawful_laid w number h v = laid w.common (group_of w.groups number).own (group_of w.groups number).parts (lawful_parts w number h v)
 
 -- what an access of the entered view finds
-pub loaded : (w : World) (at n : ℕ) → IsWorld w → IsEntered w → load_bytes (view_in w) at n ≡ number_or (bytes_at (seen_by w w.entered) (place_in (λ p. p.reads) (group_in w).parts at n) n) (if w.plan.is_paged then 13 else 5)
+pub loaded : (w : World) (at n : ℕ) → IsWorld w → IsEntered w → load_bytes (view_in w) at n ≡ number_or (bytes_at (seen_by w w.entered) (place_in (λ p. p.reads) (group_in w).parts at n) n) (if w.memory_map.is_paged then 13 else 5)
 unfolding load_bytes
-loaded w at n h e = ap (λ o. number_or o (if w.plan.is_paged then 13 else 5)) (find_parts (λ p. p.reads) (λ u. u.reads) (seen_by w w.entered) (group_in w).parts at n (λ p. refl) (lawful_laid w w.entered h e))
+loaded w at n h e = ap (λ o. number_or o (if w.memory_map.is_paged then 13 else 5)) (find_parts (λ p. p.reads) (λ u. u.reads) (seen_by w w.entered) (group_in w).parts at n (λ p. refl) (lawful_laid w w.entered h e))
 
-pub fetched : (w : World) (at : ℕ) → IsWorld w → IsEntered w → fetch_word (view_in w) at ≡ number_or (bytes_at (seen_by w w.entered) (place_in (λ p. p.runs) (group_in w).parts at 4) 4) (if w.plan.is_paged then 12 else 1)
+pub fetched : (w : World) (at : ℕ) → IsWorld w → IsEntered w → fetch_word (view_in w) at ≡ number_or (bytes_at (seen_by w w.entered) (place_in (λ p. p.runs) (group_in w).parts at 4) 4) (if w.memory_map.is_paged then 12 else 1)
 unfolding fetch_word
-fetched w at h e = ap (λ o. number_or o (if w.plan.is_paged then 12 else 1)) (find_parts (λ p. p.runs) (λ u. u.runs) (seen_by w w.entered) (group_in w).parts at 4 (λ p. refl) (lawful_laid w w.entered h e))
+fetched w at h e = ap (λ o. number_or o (if w.memory_map.is_paged then 12 else 1)) (find_parts (λ p. p.runs) (λ u. u.runs) (seen_by w w.entered) (group_in w).parts at 4 (λ p. refl) (lawful_laid w w.entered h e))
 
 -- lists of bytes with some put into one
 pub into_same : (bs : List (List ℕ)) (k at : ℕ) (xs : List ℕ) → k < length bs → bytes_in (put_into bs k at xs) k ≡ put_bytes (bytes_in bs k) at xs
@@ -76,7 +76,7 @@ pub put_parts : (w : World) (number : ℕ) (h : Home) (i : ℕ) (xs : List ℕ) 
 put_parts w number (Common k) i xs m = refl
 put_parts w number (Own k) i xs m = own_parts_same (put_into (group_of w.groups number).own k i xs) w.groups number m
 
-pub put_plan : (w : World) (number : ℕ) (h : Home) (i : ℕ) (xs : List ℕ) → (put_home w number h i xs).plan ≡ w.plan
+pub put_plan : (w : World) (number : ℕ) (h : Home) (i : ℕ) (xs : List ℕ) → (put_home w number h i xs).memory_map ≡ w.memory_map
 put_plan w number (Common k) i xs = refl
 put_plan w number (Own k) i xs = refl
 
@@ -102,7 +102,7 @@ put_others b c pl xs put h i out =
 
 pub only_refl : (w : World) → OnlyEntered w w
 only_refl w = record {
-  plan = refl;
+  memory_map = refl;
   entered = refl;
   outside = refl;
   groups = sym (own_nothing w.groups w.entered);
@@ -118,7 +118,7 @@ only_put w (Common k) i xs v there fit out =
     let b = seen_by w w.entered in
     let c = seen_by (put_home w w.entered (Common k) i xs) w.entered in
     record {
-      plan = refl;
+      memory_map = refl;
       entered = refl;
       outside = refl;
       groups = sym (own_nothing w.groups w.entered);
@@ -134,7 +134,7 @@ only_put w (Own k) i xs v there fit out =
     let b = seen_by w w.entered in
     let c = seen_by (put_home w w.entered (Own k) i xs) w.entered in
     record {
-      plan = refl;
+      memory_map = refl;
       entered = refl;
       outside = refl;
       groups = ap (λ o. with_own o w.groups w.entered) (sym is);
@@ -158,7 +158,7 @@ unfolding store_bytes
 stored w at n x pl h v e =
     let xs = to_le n x in
     let new = with_bytes w w.entered pl xs in
-    let cause : ℕ = if w.plan.is_paged then 15 else 7 in
+    let cause : ℕ = if w.memory_map.is_paged then 15 else 7 in
     let size = length-to_le n x in
     let a = lawful_parts w w.entered h v in
     let ps = (group_in w).parts in
@@ -173,11 +173,11 @@ stored w at n x pl h v e =
       only = only_put w pl.home pl.at xs v there fit (λ k j out s. outside_place ps at (length xs) pl k j f out s);
     }
 
-pub not_stored : (w : World) (at n x : ℕ) → IsWorld w → IsEntered w → written_at (group_in w).parts at n ≡ None → store_bytes (view_in w) at n x ≡ Err (if w.plan.is_paged then 15 else 7)
+pub not_stored : (w : World) (at n x : ℕ) → IsWorld w → IsEntered w → written_at (group_in w).parts at n ≡ None → store_bytes (view_in w) at n x ≡ Err (if w.memory_map.is_paged then 15 else 7)
 unfolding store_bytes
 not_stored w at n x h v e =
     let f = ap (written_at (group_in w).parts at) (length-to_le n x) ∙ e in
-    ap (λ o. view_or (view_in w) o (if w.plan.is_paged then 15 else 7)) (refuse_parts (seen_by w w.entered) (group_in w).parts at (to_le n x) (lawful_laid w w.entered h v) f)
+    ap (λ o. view_or (view_in w) o (if w.memory_map.is_paged then 15 else 7)) (refuse_parts (seen_by w w.entered) (group_in w).parts at (to_le n x) (lawful_laid w w.entered h v) f)
 
 -- one after another
 pub parts_same : (u v : World) → OnlyEntered u v → (group_in v).parts ≡ (group_in u).parts
@@ -188,7 +188,7 @@ parts_same u v o =
 
 pub only_trans : (u v w : World) → OnlyEntered u v → OnlyEntered v w → OnlyEntered u w
 only_trans u v w a b = record {
-  plan = b.plan ∙ a.plan;
+  memory_map = b.memory_map ∙ a.memory_map;
   entered = b.entered ∙ a.entered;
   outside = b.outside ∙ a.outside;
   groups = b.groups ∙ ap (λ gs. with_own (group_in w).own gs v.entered) a.groups ∙ ap (λ e. with_own (group_in w).own (with_own (group_in v).own u.groups u.entered) e) a.entered ∙ own_again (group_in w).own (group_in v).own u.groups u.entered;

@@ -3,7 +3,7 @@ use Rattle.std.specs.Prelude.{◌≡◌, ◌≢◌, ℕ, ◌+◌, ◌%◌, ◌==
 use Rattle.std.specs.List.{list_any}
 use Rattle.nx_base.specs.declared.access.Access.{Access}
 use Rattle.nx_base.specs.Good.{is_good}
-use Rattle.nx_space.specs.World.{Home, Common, Own, Part, Group, Plan, World, has_view, group_of, group_in, bytes_in, bytes_of, seen_by, view_of}
+use Rattle.nx_space.specs.World.{Home, Common, Own, Part, Group, MemoryMap, World, has_view, group_of, group_in, bytes_in, bytes_of, seen_by, view_of}
 use Rattle.nx_space.specs.Places.{written_at, with_own, is_clear}
 use Rattle.nx_space.specs.Starts.{program_at, stack_low, frames_of, needs}
 
@@ -36,21 +36,21 @@ AreOwn [] = Unit {0}
 AreOwn (p ∷ ps) = IsOwn p.home × AreOwn ps
 
 -- the n bytes at an address lie in a window that may be written, and are none of the pool's
-abbrev pub MayHold : Plan → List Part → ℕ → ℕ → Type 0
-MayHold plan ps at n = is_clear plan.pool (written_at ps at n) ≡ true
+abbrev pub MayHold : MemoryMap → List Part → ℕ → ℕ → Type 0
+MayHold memory_map ps at n = is_clear memory_map.pool (written_at ps at n) ≡ true
 
 -- without pages: the windows that every group has hold each slot's stack and each program's data
-pub record IsShared (plan : Plan) (common : List (List ℕ)) : Type 0 where
-  pub parts : AreParts common [] plan.shared
-  pub stacks : (slot : ℕ) → slot < plan.threads → MayHold plan plan.shared (stack_low plan slot) plan.stack
-  pub contents : (place : ℕ) → place < length plan.programs → 1 ≤ length (program_at plan place).init → MayHold plan plan.shared (program_at plan place).data_at (length (program_at plan place).init)
+pub record IsShared (memory_map : MemoryMap) (common : List (List ℕ)) : Type 0 where
+  pub parts : AreParts common [] memory_map.shared
+  pub stacks : (slot : ℕ) → slot < memory_map.threads → MayHold memory_map memory_map.shared (stack_low memory_map slot) memory_map.stack
+  pub contents : (place : ℕ) → place < length memory_map.programs → 1 ≤ length (program_at memory_map place).init → MayHold memory_map memory_map.shared (program_at memory_map place).data_at (length (program_at memory_map place).init)
 
 -- with pages: a group's windows are its own, and hold the stacks of its slots and its program's data
-pub record IsAlone (plan : Plan) (common : List (List ℕ)) (g : Group) : Type 0 where
+pub record IsAlone (memory_map : MemoryMap) (common : List (List ℕ)) (g : Group) : Type 0 where
   pub parts : AreParts common g.own g.parts
   pub own : AreOwn g.parts
-  pub stacks : (slot : ℕ) → list_any (λ s. s == slot) g.slots ≡ true → MayHold plan g.parts (stack_low plan slot) plan.stack
-  pub contents : 1 ≤ length (program_at plan g.program).init → MayHold plan g.parts (program_at plan g.program).data_at (length (program_at plan g.program).init)
+  pub stacks : (slot : ℕ) → list_any (λ s. s == slot) g.slots ≡ true → MayHold memory_map g.parts (stack_low memory_map slot) memory_map.stack
+  pub contents : 1 ≤ length (program_at memory_map g.program).init → MayHold memory_map g.parts (program_at memory_map g.program).data_at (length (program_at memory_map g.program).init)
 
 -- no two groups have one number
 abbrev pub AreNumbered : List Group → Type 0
@@ -59,14 +59,14 @@ AreNumbered (g ∷ gs) = (has_view gs g.number ≡ false) × AreNumbered gs
 
 -- what holds of every world
 pub record IsWorld (w : World) : Type 0 where
-  pub few : length w.groups ≤ w.plan.threads
+  pub few : length w.groups ≤ w.memory_map.threads
   pub numbered : AreNumbered w.groups
-  pub enough : needs w.plan w.groups ≤ w.plan.frames
-  pub pool : w.plan.pool ≤ length (bytes_in w.common 0)
-  pub pages : w.plan.is_paged ≡ true → w.plan.pool % 4096 ≡ 0
-  pub shared : w.plan.is_paged ≡ false → IsShared w.plan w.common
-  pub alike : w.plan.is_paged ≡ false → (number : ℕ) → has_view w.groups number ≡ true → ((group_of w.groups number).parts ≡ w.plan.shared) × ((group_of w.groups number).own ≡ [])
-  pub alone : w.plan.is_paged ≡ true → (number : ℕ) → has_view w.groups number ≡ true → IsAlone w.plan w.common (group_of w.groups number)
+  pub enough : needs w.memory_map w.groups ≤ w.memory_map.frames
+  pub pool : w.memory_map.pool ≤ length (bytes_in w.common 0)
+  pub pages : w.memory_map.is_paged ≡ true → w.memory_map.pool % 4096 ≡ 0
+  pub shared : w.memory_map.is_paged ≡ false → IsShared w.memory_map w.common
+  pub alike : w.memory_map.is_paged ≡ false → (number : ℕ) → has_view w.groups number ≡ true → ((group_of w.groups number).parts ≡ w.memory_map.shared) × ((group_of w.groups number).own ≡ [])
+  pub alone : w.memory_map.is_paged ≡ true → (number : ℕ) → has_view w.groups number ≡ true → IsAlone w.memory_map w.common (group_of w.groups number)
 
 -- a byte that no window lets be written
 abbrev pub IsOutside : List Part → Home → ℕ → Type 0
@@ -75,7 +75,7 @@ IsOutside (p ∷ ps) h i = (p.writes ≡ true → p.home ≡ h → (i < p.from) 
 
 -- nothing differs but bytes that the entered view may write
 pub record OnlyEntered (old new : World) : Type 0 where
-  pub plan : new.plan ≡ old.plan
+  pub memory_map : new.memory_map ≡ old.memory_map
   pub entered : new.entered ≡ old.entered
   pub outside : new.outside ≡ old.outside
   pub groups : new.groups ≡ with_own (group_in new).own old.groups old.entered
@@ -89,4 +89,4 @@ pub record IsLeft (old new : World) (number : ℕ) : Type 0 where
   pub view : has_view new.groups number ≡ true
   pub group : group_of new.groups number ≡ group_of old.groups number
   pub good : (at n : ℕ) (a : Access) → is_good (view_of new number) at n a ≡ is_good (view_of old number) at n a
-  pub alone : old.plan.is_paged ≡ true → view_of new number ≡ view_of old number
+  pub alone : old.memory_map.is_paged ≡ true → view_of new number ≡ view_of old number

@@ -6,7 +6,7 @@ use Rattle.std.proofs.lemmas.List.{length-map, get_or_past}
 use Rattle.nx_base.specs.ByteLists.{put_bytes, AreBytes}
 use Rattle.nx_ram.specs.declared.prog_image.ProgImage.{ProgImage}
 use Rattle.nx_space.specs.declared.shared.Live.{Live}
-use Rattle.nx_space.specs.World.{Home, Common, Own, Part, Group, Plan, World, has_view, group_of, bytes_in, seen_by}
+use Rattle.nx_space.specs.World.{Home, Common, Own, Part, Group, MemoryMap, World, has_view, group_of, bytes_in, seen_by}
 use Rattle.nx_space.specs.Lawful.{IsShared, AreNumbered, IsWorld}
 use Rattle.nx_space.specs.Starts.{no_program, frames_of, frames_for, needs}
 
@@ -41,7 +41,7 @@ pub record Sharing : Type 0 where
 abbrev pub shared_group : List Part → Live → Group
 shared_group ps live = record { number = live.number; program = live.program; slot = live.slot; parts = ps; own = []; slots = [] }
 
-abbrev pub shared_plan : List Part → ℕ → Sharing → Plan
+abbrev pub shared_plan : List Part → ℕ → Sharing → MemoryMap
 shared_plan ps pool s = record {
   programs = s.programs;
   stacks_at = s.stacks_at;
@@ -57,7 +57,7 @@ shared_plan ps pool s = record {
 -- the world, where these windows are those of every group, and so many bytes of the RAM are the pool
 abbrev pub shared_world : List Part → ℕ → Sharing → World
 shared_world ps pool s = record {
-  plan = shared_plan ps pool s;
+  memory_map = shared_plan ps pool s;
   common = s.ram ∷ [];
   groups = map (shared_group ps) s.live;
   entered = s.entered;
@@ -145,10 +145,10 @@ live_numbered ps [] h = tt
 live_numbered ps (l ∷ lives) h = let b = both_hold (has_live lives l.number) (are_distinct lives) h in (live_view ps lives l.number ∙ b.0, live_numbered ps lives b.1)
 
 -- without pages no group has a frame
-pub need_shared : (plan : Plan) (gs : List Group) → plan.is_paged ≡ false → needs plan gs ≡ 0
+pub need_shared : (memory_map : MemoryMap) (gs : List Group) → memory_map.is_paged ≡ false → needs memory_map gs ≡ 0
 unfolding needs frames_for
-need_shared plan [] h = refl
-need_shared plan (g ∷ gs) h = let rest = need_shared plan gs h in rw h (omega (arith, rest))
+need_shared memory_map [] h = refl
+need_shared memory_map (g ∷ gs) h = let rest = need_shared memory_map gs h in rw h (omega (arith, rest))
 
 pub shared_lawful : (ps : List Part) (pool : ℕ) (s : Sharing) → IsSharing s → pool ≤ s.size → IsShared (shared_plan ps pool s) (s.ram ∷ []) → IsWorld (shared_world ps pool s)
 shared_lawful ps pool s h p shared = record {

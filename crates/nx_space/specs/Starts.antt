@@ -3,38 +3,38 @@ use Rattle.std.specs.Prelude.{ℕ, zero, suc, ◌+◌, ◌-◌, ◌*◌, ◌/◌
 use Rattle.std.specs.List.{list_any}
 use Rattle.nx_base.specs.declared.regs.Regs.{Regs}
 use Rattle.nx_ram.specs.declared.prog_image.ProgImage.{ProgImage}
-use Rattle.nx_space.specs.World.{Home, Own, Part, Group, Plan, World, group_of}
+use Rattle.nx_space.specs.World.{Home, Own, Part, Group, MemoryMap, World, group_of}
 use Rattle.nx_space.specs.Places.{Place, written_at, with_bytes}
 
 -- stands for a program that there is not
 abbrev pub no_program : ProgImage
 no_program = record { name = []; text_at = 0; text = []; data_at = 0; init = []; main = 0; end_group = 0; end_thread = 0 }
 
-abbrev pub program_at : Plan → ℕ → ProgImage
-program_at plan place = slice_index_or plan.programs place no_program
+abbrev pub program_at : MemoryMap → ℕ → ProgImage
+program_at memory_map place = slice_index_or memory_map.programs place no_program
 
 -- the place of a group's program
 abbrev pub program_of : List Group → ℕ → ℕ
 program_of gs number = (group_of gs number).program
 
 -- the lowest address of a slot's stack, and its end
-abbrev pub stack_low : Plan → ℕ → ℕ
-stack_low plan slot = plan.stacks_at + slot * plan.stride
+abbrev pub stack_low : MemoryMap → ℕ → ℕ
+stack_low memory_map slot = memory_map.stacks_at + slot * memory_map.stride
 
-abbrev pub stack_end : Plan → ℕ → ℕ
-stack_end plan slot = stack_low plan slot + plan.stack
+abbrev pub stack_end : MemoryMap → ℕ → ℕ
+stack_end memory_map slot = stack_low memory_map slot + memory_map.stack
 
 -- all registers are 0 but these: 1 a stub, 2 the stack's end, 4 its lowest address
 abbrev pub regs_with : ℕ → ℕ → ℕ → ℕ → Regs
 regs_with stub low high entry = record { x = slice_set (slice_set (slice_set (replicate 32 0) 1 stub) 2 high) 4 low; pc = entry }
 
 -- the registers of a main thread
-unfoldable pub start_regs : Plan → ℕ → ℕ → Regs
-start_regs plan place slot = regs_with (program_at plan place).end_group (stack_low plan slot) (stack_end plan slot) (program_at plan place).main
+unfoldable pub start_regs : MemoryMap → ℕ → ℕ → Regs
+start_regs memory_map place slot = regs_with (program_at memory_map place).end_group (stack_low memory_map slot) (stack_end memory_map slot) (program_at memory_map place).main
 
 -- the registers of a new thread, whose entry and argument are not set yet
-unfoldable pub thread_regs : Plan → ℕ → ℕ → Regs
-thread_regs plan place slot = regs_with (program_at plan place).end_thread (stack_low plan slot) (stack_end plan slot) 0
+unfoldable pub thread_regs : MemoryMap → ℕ → ℕ → Regs
+thread_regs memory_map place slot = regs_with (program_at memory_map place).end_thread (stack_low memory_map slot) (stack_end memory_map slot) 0
 
 -- pages of 4,096 bytes that n bytes take
 abbrev pub pages_of : ℕ → ℕ
@@ -50,15 +50,15 @@ abbrev pub pages_at : ℕ → ℕ → List ℕ
 pages_at at n = pages_from (at / 4096) (pages_of n)
 
 -- the pages of these slots' stacks
-abbrev pub stack_pages : Plan → List ℕ → List ℕ
-stack_pages plan [] = []
-stack_pages plan (slot ∷ slots) = pages_at (stack_low plan slot) plan.stack ++ stack_pages plan slots
+abbrev pub stack_pages : MemoryMap → List ℕ → List ℕ
+stack_pages memory_map [] = []
+stack_pages memory_map (slot ∷ slots) = pages_at (stack_low memory_map slot) memory_map.stack ++ stack_pages memory_map slots
 
 -- the pages of a program's text and data, and of the stacks of these slots
-abbrev pub mapped_pages : Plan → ℕ → List ℕ → List ℕ
-mapped_pages plan place slots =
-    let p = program_at plan place in
-    pages_at p.text_at (length p.text) ++ pages_at p.data_at (length p.init) ++ stack_pages plan slots
+abbrev pub mapped_pages : MemoryMap → ℕ → List ℕ → List ℕ
+mapped_pages memory_map place slots =
+    let p = program_at memory_map place in
+    pages_at p.text_at (length p.text) ++ pages_at p.data_at (length p.init) ++ stack_pages memory_map slots
 
 -- how many different numbers there are
 abbrev pub different : List ℕ → ℕ
@@ -67,27 +67,27 @@ different (n ∷ ns) = (if list_any (λ m. m == n) ns then 0 else 1) + different
 
 -- the frames of a group with a program and these slots' stacks: a root, one for each page, and a table
 -- for each region of 4 MiB that has one of the pages. Without pages none
-unfoldable pub frames_for : Plan → ℕ → List ℕ → ℕ
-frames_for plan place slots =
-    let pages = mapped_pages plan place slots in
-    if plan.is_paged then 1 + length pages + different (map (λ page. page / 1024) pages) else 0
+unfoldable pub frames_for : MemoryMap → ℕ → List ℕ → ℕ
+frames_for memory_map place slots =
+    let pages = mapped_pages memory_map place slots in
+    if memory_map.is_paged then 1 + length pages + different (map (λ page. page / 1024) pages) else 0
 
 -- the frames of a group
-abbrev pub frames_of : Plan → Group → ℕ
-frames_of plan g = frames_for plan g.program g.slots
+abbrev pub frames_of : MemoryMap → Group → ℕ
+frames_of memory_map g = frames_for memory_map g.program g.slots
 
 -- the frames of all groups
-unfoldable pub needs : Plan → List Group → ℕ
-needs plan [] = 0
-needs plan (g ∷ gs) = frames_of plan g + needs plan gs
+unfoldable pub needs : MemoryMap → List Group → ℕ
+needs memory_map [] = 0
+needs memory_map (g ∷ gs) = frames_of memory_map g + needs memory_map gs
 
 -- the frames that no group has
 abbrev pub free : World → ℕ
-free w = w.plan.frames - needs w.plan w.groups
+free w = w.memory_map.frames - needs w.memory_map w.groups
 
 -- the frames of a start
-abbrev pub start_need : Plan → ℕ → ℕ → ℕ
-start_need plan place slot = frames_for plan place (slot ∷ [])
+abbrev pub start_need : MemoryMap → ℕ → ℕ → ℕ
+start_need memory_map place slot = frames_for memory_map place (slot ∷ [])
 
 abbrev pub has_slot : List ℕ → ℕ → Bool
 has_slot slots slot = list_any (λ s. s == slot) slots
@@ -100,7 +100,7 @@ with_slot slots slot = if has_slot slots slot then slots else slots ++ slot ∷ 
 abbrev pub grow_need : World → ℕ → ℕ → ℕ
 grow_need w number slot =
     let g = group_of w.groups number in
-    frames_for w.plan g.program (with_slot g.slots slot) - frames_of w.plan g
+    frames_for w.memory_map g.program (with_slot g.slots slot) - frames_of w.memory_map g
 
 -- a world with bytes put where windows of a group let them be written
 abbrev pub put_or : World → ℕ → Option Place → List ℕ → World
@@ -112,11 +112,11 @@ put_seen w number ps at xs = put_or w number (written_at ps at (length xs)) xs
 
 -- a slot's stack is set to zeros
 abbrev pub zero_stack : World → ℕ → List Part → ℕ → World
-zero_stack w number ps slot = put_seen w number ps (stack_low w.plan slot) (replicate w.plan.stack 0)
+zero_stack w number ps slot = put_seen w number ps (stack_low w.memory_map slot) (replicate w.memory_map.stack 0)
 
 -- a program's data are set to their first contents
 abbrev pub set_data : World → ℕ → List Part → ℕ → World
-set_data w number ps place = put_seen w number ps (program_at w.plan place).data_at (program_at w.plan place).init
+set_data w number ps place = put_seen w number ps (program_at w.memory_map place).data_at (program_at w.memory_map place).init
 
 abbrev pub with_group : World → Group → World
 with_group w g = record w { groups = w.groups ++ g ∷ [] }
@@ -124,8 +124,8 @@ with_group w g = record w { groups = w.groups ++ g ∷ [] }
 -- without pages every group has the shared windows, and the data are set where asked
 abbrev pub shared_start : World → ℕ → ℕ → ℕ → Bool → World
 shared_start w number place slot fresh =
-    let group : Group = record { number = number; program = place; slot = slot; parts = w.plan.shared; own = []; slots = [] } in
-    with_group (zero_stack (if fresh then set_data w number w.plan.shared place else w) number w.plan.shared slot) group
+    let group : Group = record { number = number; program = place; slot = slot; parts = w.memory_map.shared; own = []; slots = [] } in
+    with_group (zero_stack (if fresh then set_data w number w.memory_map.shared place else w) number w.memory_map.shared slot) group
 
 -- bytes of whole pages at an address, which may be written, or else run
 pub record Area : Type 0 where
@@ -142,14 +142,14 @@ abbrev pub area_of : ℕ → Bool → List ℕ → List Area
 area_of at writes [] = []
 area_of at writes (b ∷ bytes) = record { start = at; writes = writes; bytes = paged (b ∷ bytes) } ∷ []
 
-abbrev pub stack_area : Plan → ℕ → Area
-stack_area plan slot = record { start = stack_low plan slot; writes = true; bytes = replicate (4096 * pages_of plan.stack) 0 }
+abbrev pub stack_area : MemoryMap → ℕ → Area
+stack_area memory_map slot = record { start = stack_low memory_map slot; writes = true; bytes = replicate (4096 * pages_of memory_map.stack) 0 }
 
 -- what a group has alone from its start on: its text, its data, and the stack of its main thread
-abbrev pub areas_of : Plan → ℕ → ℕ → List Area
-areas_of plan place slot =
-    let p = program_at plan place in
-    area_of p.text_at false p.text ++ area_of p.data_at true p.init ++ stack_area plan slot ∷ []
+abbrev pub areas_of : MemoryMap → ℕ → ℕ → List Area
+areas_of memory_map place slot =
+    let p = program_at memory_map place in
+    area_of p.text_at false p.text ++ area_of p.data_at true p.init ++ stack_area memory_map slot ∷ []
 
 -- a window over all of the k-th bytes of a group's own
 abbrev pub own_part : ℕ → Area → Part
@@ -162,7 +162,7 @@ own_parts k (a ∷ areas) = own_part k a ∷ own_parts (k + 1) areas
 -- with pages a group has bytes of its own, and the data are always set
 abbrev pub paged_start : World → ℕ → ℕ → ℕ → World
 paged_start w number place slot =
-    let areas = areas_of w.plan place slot in
+    let areas = areas_of w.memory_map place slot in
     let group : Group = record {
       number = number;
       program = place;
@@ -175,12 +175,12 @@ paged_start w number place slot =
 
 -- a group starts
 unfoldable pub started : World → ℕ → ℕ → ℕ → Bool → World
-started w number place slot fresh = if w.plan.is_paged then paged_start w number place slot else shared_start w number place slot fresh
+started w number place slot fresh = if w.memory_map.is_paged then paged_start w number place slot else shared_start w number place slot fresh
 
 -- a group with one stack more
-abbrev pub with_stack : Plan → ℕ → Group → Group
-with_stack plan slot g =
-    let area = stack_area plan slot in
+abbrev pub with_stack : MemoryMap → ℕ → Group → Group
+with_stack memory_map slot g =
+    let area = stack_area memory_map slot in
     record g { parts = g.parts ++ own_part (length g.own) area ∷ []; own = g.own ++ area.bytes ∷ []; slots = g.slots ++ slot ∷ [] }
 
 unfoldable pub change_group : (Group → Group) → List Group → ℕ → List Group
@@ -190,8 +190,8 @@ change_group f (g ∷ gs) number = if g.number == number then f g ∷ gs else g 
 -- a group has one thread more, whose stack is zeros
 unfoldable pub grown : World → ℕ → ℕ → World
 grown w number slot =
-    if w.plan.is_paged && not (has_slot (group_of w.groups number).slots slot)
-    then record w { groups = change_group (with_stack w.plan slot) w.groups number }
+    if w.memory_map.is_paged && not (has_slot (group_of w.groups number).slots slot)
+    then record w { groups = change_group (with_stack w.memory_map slot) w.groups number }
     else zero_stack w number (group_of w.groups number).parts slot
 
 unfoldable pub without : List Group → ℕ → List Group
@@ -204,4 +204,4 @@ finished w number = record w { groups = without w.groups number }
 
 -- where there are pages, bytes of the RAM that no window and no pool has may differ
 abbrev pub but_outside : World → World → World
-but_outside w new = if w.plan.is_paged then record w { outside = new.outside } else w
+but_outside w new = if w.memory_map.is_paged then record w { outside = new.outside } else w

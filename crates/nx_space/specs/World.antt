@@ -32,7 +32,7 @@ pub record Group : Type 0 where
 -- what stays from boot on: the programs, the address of slot 0's stack, the bytes of a stack, the bytes
 -- from one slot's stack to the next, the limit of threads, whether refusals are page faults, the windows
 -- of every group of a space without pages, the bytes of the kernel's pool, and the page frames in all
-pub record Plan : Type 0 where
+pub record MemoryMap : Type 0 where
   pub programs : List ProgImage
   pub stacks_at : ℕ
   pub stack : ℕ
@@ -46,7 +46,7 @@ pub record Plan : Type 0 where
 -- the bytes that groups share, the groups in the order of their starts, the group that was entered last,
 -- and the bytes of the RAM that no window and no pool has
 pub record World : Type 0 where
-  pub plan : Plan
+  pub memory_map : MemoryMap
   pub common : List (List ℕ)
   pub groups : List Group
   pub entered : ℕ
@@ -98,7 +98,7 @@ window_of bytes p = record {
 
 -- a group's view as plain data
 abbrev pub view_of : World → ℕ → View
-view_of w number = record { windows = map (window_of (seen_by w number)) (group_of w.groups number).parts; is_paged = w.plan.is_paged }
+view_of w number = record { windows = map (window_of (seen_by w number)) (group_of w.groups number).parts; is_paged = w.memory_map.is_paged }
 
 -- the view that was entered last
 abbrev pub view_in : World → View
@@ -106,4 +106,4 @@ view_in w = view_of w w.entered
 
 -- the kernel's pool, which stands first of the bytes that groups share
 abbrev pub pool_of : World → List ℕ
-pool_of w = take w.plan.pool (bytes_in w.common 0)
+pool_of w = take w.memory_map.pool (bytes_in w.common 0)

@@ -8,7 +8,7 @@ ghost use Rattle.nx_pmp.specs.declared.pmp.Pmp.{Pmp};
 ghost use Rattle.nx_pmp.specs.Protection.{allows};
 ghost use Rattle.nx_space.specs.Shared.{Sharing, IsSharing};
 ghost use Rattle.nx_space.specs.Protected.{protected_world, IsProtected};
-ghost use Rattle.nx_space.specs.World.{World, Plan, Common, IsEntered, has_view, group_of, group_in, view_of, view_in, pool_of};
+ghost use Rattle.nx_space.specs.World.{World, MemoryMap, Common, IsEntered, has_view, group_of, group_in, view_of, view_in, pool_of};
 ghost use Rattle.nx_space.specs.Lawful.{IsWorld, IsOutside, OnlyEntered, IsLeft};
 ghost use Rattle.nx_space.specs.Starts.{start_need, grow_need, free, started, grown, finished, but_outside};
 
@@ -28,14 +28,14 @@ pub fn what_is_good_stays_good()
 
 /// A law: without pages no start and no stack needs a frame.
 pub fn without_pages_nothing_needs_a_frame()
-    ensures start { (plan : Plan) (program slot : ℕ) → plan.is_paged ≡ false → start_need plan program slot ≡ 0 }
-    ensures stack { (w : World) (number slot : ℕ) → w.plan.is_paged ≡ false → grow_need w number slot ≡ 0 }
+    ensures start { (memory_map : MemoryMap) (program slot : ℕ) → memory_map.is_paged ≡ false → start_need memory_map program slot ≡ 0 }
+    ensures stack { (w : World) (number slot : ℕ) → w.memory_map.is_paged ≡ false → grow_need w number slot ≡ 0 }
 {}
 
-/// A law: a group has a view from its start on, and a start leaves the plan and the windows of the
+/// A law: a group has a view from its start on, and a start leaves the memory map and the windows of the
 /// others.
 pub fn a_started_group_has_a_view()
-    ensures plan { (w new : World) (number program slot : ℕ) (fresh : Bool) → new ≡ but_outside (started w number program slot fresh) new → new.plan ≡ w.plan }
+    ensures memory_map { (w new : World) (number program slot : ℕ) (fresh : Bool) → new ≡ but_outside (started w number program slot fresh) new → new.memory_map ≡ w.memory_map }
     ensures own { (w new : World) (number program slot : ℕ) (fresh : Bool) → new ≡ but_outside (started w number program slot fresh) new → has_view new.groups number ≡ true }
     ensures others { (w new : World) (number program slot other : ℕ) (fresh : Bool) → new ≡ but_outside (started w number program slot fresh) new → has_view w.groups other ≡ true → (has_view new.groups other ≡ true) × ((group_of new.groups other).parts ≡ (group_of w.groups other).parts) }
 {}
@@ -43,26 +43,26 @@ pub fn a_started_group_has_a_view()
 /// A law: a start, a thread's stack and the end of a group leave each other group: its windows, what
 /// is good in its view, and with pages the whole view.
 pub fn the_other_groups_are_left()
-    ensures start { (w new : World) (number program slot other : ℕ) (fresh : Bool) → IsWorld w → program < length w.plan.programs → slot < w.plan.threads → new ≡ but_outside (started w number program slot fresh) new → has_view w.groups other ≡ true → other ≢ number → IsLeft w new other }
-    ensures stack { (w new : World) (number slot other : ℕ) → IsWorld w → has_view w.groups number ≡ true → slot < w.plan.threads → new ≡ but_outside (grown w number slot) new → has_view w.groups other ≡ true → other ≢ number → IsLeft w new other }
+    ensures start { (w new : World) (number program slot other : ℕ) (fresh : Bool) → IsWorld w → program < length w.memory_map.programs → slot < w.memory_map.threads → new ≡ but_outside (started w number program slot fresh) new → has_view w.groups other ≡ true → other ≢ number → IsLeft w new other }
+    ensures stack { (w new : World) (number slot other : ℕ) → IsWorld w → has_view w.groups number ≡ true → slot < w.memory_map.threads → new ≡ but_outside (grown w number slot) new → has_view w.groups other ≡ true → other ≢ number → IsLeft w new other }
     ensures end { (w new : World) (number other : ℕ) → new ≡ but_outside (finished w number) new → has_view w.groups other ≡ true → other ≢ number → IsLeft w new other }
 {}
 
 /// A law: starts, threads' stacks and ends leave the kernel's pool, and so do accesses where no
 /// window of the entered view lets it be written, as with pages none does.
 pub fn the_pool_stays()
-    ensures start { (w new : World) (number program slot : ℕ) (fresh : Bool) → IsWorld w → program < length w.plan.programs → slot < w.plan.threads → new ≡ but_outside (started w number program slot fresh) new → pool_of new ≡ pool_of w }
-    ensures stack { (w new : World) (number slot : ℕ) → IsWorld w → has_view w.groups number ≡ true → slot < w.plan.threads → new ≡ but_outside (grown w number slot) new → pool_of new ≡ pool_of w }
+    ensures start { (w new : World) (number program slot : ℕ) (fresh : Bool) → IsWorld w → program < length w.memory_map.programs → slot < w.memory_map.threads → new ≡ but_outside (started w number program slot fresh) new → pool_of new ≡ pool_of w }
+    ensures stack { (w new : World) (number slot : ℕ) → IsWorld w → has_view w.groups number ≡ true → slot < w.memory_map.threads → new ≡ but_outside (grown w number slot) new → pool_of new ≡ pool_of w }
     ensures end { (w new : World) (number : ℕ) → new ≡ but_outside (finished w number) new → pool_of new ≡ pool_of w }
-    ensures access { (v w : World) → OnlyEntered v w → ((i : ℕ) → i < v.plan.pool → IsOutside (group_in v).parts (Common 0) i) → pool_of w ≡ pool_of v }
-    ensures paged { (v w : World) → OnlyEntered v w → IsWorld v → IsEntered v → v.plan.is_paged ≡ true → pool_of w ≡ pool_of v }
+    ensures access { (v w : World) → OnlyEntered v w → ((i : ℕ) → i < v.memory_map.pool → IsOutside (group_in v).parts (Common 0) i) → pool_of w ≡ pool_of v }
+    ensures paged { (v w : World) → OnlyEntered v w → IsWorld v → IsEntered v → v.memory_map.is_paged ≡ true → pool_of w ≡ pool_of v }
 {}
 
 /// A law: a group sees all of what another writes, or nothing of it. Without pages all groups have
 /// one view; with pages no other group sees what is written through the entered view.
 pub fn a_group_sees_all_of_a_write_or_nothing()
-    ensures shared { (w : World) (g h : ℕ) → IsWorld w → w.plan.is_paged ≡ false → has_view w.groups g ≡ true → has_view w.groups h ≡ true → view_of w g ≡ view_of w h }
-    ensures paged { (v w : World) (h : ℕ) → IsWorld v → v.plan.is_paged ≡ true → OnlyEntered v w → has_view v.groups h ≡ true → h ≢ v.entered → view_of w h ≡ view_of v h }
+    ensures shared { (w : World) (g h : ℕ) → IsWorld w → w.memory_map.is_paged ≡ false → has_view w.groups g ≡ true → has_view w.groups h ≡ true → view_of w g ≡ view_of w h }
+    ensures paged { (v w : World) (h : ℕ) → IsWorld v → v.memory_map.is_paged ≡ true → OnlyEntered v w → has_view v.groups h ≡ true → h ≢ v.entered → view_of w h ≡ view_of v h }
 {}
 
 /// A law: the view of a protected space is what its entries allow in user mode: an aligned access is

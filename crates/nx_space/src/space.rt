@@ -76,21 +76,21 @@ pub trait Space {
     /// registers of its main thread.
     fn start(&mut self, group: u32, prog: usize, slot: u32, fresh: bool) -> Result<Regs, TooFew>
         requires new { has_view (world self.old).groups group ≡ false }
-        requires room { length (world self.old).groups < (world self.old).plan.threads }
-        requires prog { prog < length (world self.old).plan.programs }
-        requires slot { slot < (world self.old).plan.threads }
-        ensures regs { IfOk result (λ regs. regs ≡ start_regs (world self.old).plan prog slot) }
+        requires room { length (world self.old).groups < (world self.old).memory_map.threads }
+        requires prog { prog < length (world self.old).memory_map.programs }
+        requires slot { slot < (world self.old).memory_map.threads }
+        ensures regs { IfOk result (λ regs. regs ≡ start_regs (world self.old).memory_map prog slot) }
         ensures started { OnOk result (world self.new ≡ but_outside (started (world self.old) group prog slot fresh) (world self.new)) }
-        ensures enough { OnOk result (start_need (world self.old).plan prog slot ≤ free (world self.old)) }
-        ensures too_few { IfErr result (λ few. (few ≡ record { need = start_need (world self.old).plan prog slot; free = free (world self.old) }) × (few.free < few.need)) }
+        ensures enough { OnOk result (start_need (world self.old).memory_map prog slot ≤ free (world self.old)) }
+        ensures too_few { IfErr result (λ few. (few ≡ record { need = start_need (world self.old).memory_map prog slot; free = free (world self.old) }) × (few.free < few.need)) }
         ensures refused { OnErr result (world self.new ≡ world self.old) };
 
     /// Gives a group the stack of `slot`, set to zeros. This answers the registers of a new thread,
     /// whose entry and argument the caller sets.
     fn grow_stack_slot(&mut self, group: u32, slot: u32) -> Result<Regs, TooFew>
         requires group { has_view (world self.old).groups group ≡ true }
-        requires slot { slot < (world self.old).plan.threads }
-        ensures regs { IfOk result (λ regs. regs ≡ thread_regs (world self.old).plan (program_of (world self.old).groups group) slot) }
+        requires slot { slot < (world self.old).memory_map.threads }
+        ensures regs { IfOk result (λ regs. regs ≡ thread_regs (world self.old).memory_map (program_of (world self.old).groups group) slot) }
         ensures grown { OnOk result (world self.new ≡ but_outside (grown (world self.old) group slot) (world self.new)) }
         ensures enough { OnOk result (grow_need (world self.old) group slot ≤ free (world self.old)) }
         ensures too_few { IfErr result (λ few. (few ≡ record { need = grow_need (world self.old) group slot; free = free (world self.old) }) × (few.free < few.need)) }

@@ -12,8 +12,8 @@ use std::test::Fail;
 // A RAM of 128 bytes: a text of 8 at its start, data of 4 at 32, and two stacks of 16 from 64 on.
 fn board(alloc: Global) -> Result<FlatSpace, OutOfMemory>
     ensures groups { IfOk result (λ space. (⟦<FlatSpace as Space>⟧.world space).groups ≡ []) }
-    ensures threads { IfOk result (λ space. (⟦<FlatSpace as Space>⟧.world space).plan.threads ≡ 2) }
-    ensures programs { IfOk result (λ space. length (⟦<FlatSpace as Space>⟧.world space).plan.programs ≡ 1) }
+    ensures threads { IfOk result (λ space. (⟦<FlatSpace as Space>⟧.world space).memory_map.threads ≡ 2) }
+    ensures programs { IfOk result (λ space. length (⟦<FlatSpace as Space>⟧.world space).memory_map.programs ≡ 1) }
 {
     let mut ram = Ram::new(alloc, 128)?;
     ram.store32(0, 0x00000073);
@@ -38,7 +38,7 @@ fn board(alloc: Global) -> Result<FlatSpace, OutOfMemory>
 fn running(alloc: Global) -> Result<FlatSpace, OutOfMemory>
     ensures entered { IfOk result (λ space. (⟦<FlatSpace as Space>⟧.world space).entered ≡ 7) }
     ensures view { IfOk result (λ space. has_view (⟦<FlatSpace as Space>⟧.world space).groups 7 ≡ true) }
-    ensures threads { IfOk result (λ space. (⟦<FlatSpace as Space>⟧.world space).plan.threads ≡ 2) }
+    ensures threads { IfOk result (λ space. (⟦<FlatSpace as Space>⟧.world space).memory_map.threads ≡ 2) }
 {
     let mut space = board(alloc)?;
     match space.start(7, 0, 0, true) {
@@ -110,8 +110,8 @@ fn an_end_of_a_group(rt: HostRuntime) -> Result<(), Fail> {
 // A RAM of 256 bytes with a pool of 64: texts from 64 on, data from 128 on, and two stacks of 16 from 160 on.
 fn walls(alloc: Global) -> Result<PmpSpace, OutOfMemory>
     ensures groups { IfOk result (λ space. (⟦<PmpSpace as Space>⟧.world space).groups ≡ []) }
-    ensures threads { IfOk result (λ space. (⟦<PmpSpace as Space>⟧.world space).plan.threads ≡ 2) }
-    ensures programs { IfOk result (λ space. length (⟦<PmpSpace as Space>⟧.world space).plan.programs ≡ 1) }
+    ensures threads { IfOk result (λ space. (⟦<PmpSpace as Space>⟧.world space).memory_map.threads ≡ 2) }
+    ensures programs { IfOk result (λ space. length (⟦<PmpSpace as Space>⟧.world space).memory_map.programs ≡ 1) }
 {
     let mut ram = Ram::new(alloc, 256)?;
     ram.store32(64, 0x00000073);

@@ -1,4 +1,4 @@
--- A booted image follows the plan of its program. nx_system will take its place.
+-- A booted image follows the expected run of its program. nx_system will take its place.
 use Rattle.std.proofs.Common.{◌≡◌, ℕ, ◌+◌, ◌-◌, ◌*◌, ◌^◌, ◌≤◌, true, false, List, [], ◌∷◌, length, take, drop, Ok, Some, Option, refl, sym, ap, ◌∙◌, subst, arith}
 use Rattle.std.specs.Prelude.{slice_index}
 use Rattle.std.proofs.lemmas.Bool.Decides.{nat_tests}
@@ -60,11 +60,11 @@ lie_at image ram (string ∷ strings) (at ∷ places) b s =
 lie_at image ram [] (at ∷ places) b s = s
 lie_at image ram (string ∷ strings) [] b s = s
 
--- the plan of a program that is kept
+-- the expected run of a program that is kept
 abbrev pub expected_of : Program → List ℕ → ExpectedRun
 expected_of p places = record { strings = p.writes; places = places; status = p.status; instructions = 6 + 11 * length p.writes }
 
--- the words of a booted program follow its plan
+-- the words of a booted program follow its expected run
 pub planned : (p : Program) (image : ProgImage) (ram : List ℕ) (f : FitsText p) (c : IsCompiled image p) → IsBooted image ram → IsExpectedFrom (expected_of p (keeps p image f c).places) (start_regs image) (flat_view ram)
 planned p image ram f c b =
     let k = keeps p image f c in
@@ -74,12 +74,12 @@ planned p image ram f c b =
       lie = lie_at image ram p.writes k.places b k.strings;
     }
 
--- so a run of whatever went by every plan went by that of its program
-pub ran_as_expected : (p : Program) (image : ProgImage) (ram : List ℕ) (f : FitsText p) (c : IsCompiled image p) (r : Regs) (v : View) (run : Option GuestRun) → IsBooted image ram → r ≡ start_regs image → v ≡ flat_view ram → ((plan : ExpectedRun) → IsExpectedFrom plan r v → RanAs plan run) → RanAs (expected_of p (keeps p image f c).places) run
+-- so a run of whatever went by every expected run went by that of its program
+pub ran_as_expected : (p : Program) (image : ProgImage) (ram : List ℕ) (f : FitsText p) (c : IsCompiled image p) (r : Regs) (v : View) (run : Option GuestRun) → IsBooted image ram → r ≡ start_regs image → v ≡ flat_view ram → ((expected_run : ExpectedRun) → IsExpectedFrom expected_run r v → RanAs expected_run run) → RanAs (expected_of p (keeps p image f c).places) run
 ran_as_expected p image ram f c r v run b er ev went =
-    let plan = expected_of p (keeps p image f c).places in
-    let from_view : IsExpectedFrom plan (start_regs image) v = subst (λ (w : View). IsExpectedFrom plan (start_regs image) w) (sym ev) (planned p image ram f c b) in
-    went plan (subst (λ (q : Regs). IsExpectedFrom plan q v) (sym er) from_view)
+    let expected_run = expected_of p (keeps p image f c).places in
+    let from_view : IsExpectedFrom expected_run (start_regs image) v = subst (λ (w : View). IsExpectedFrom expected_run (start_regs image) w) (sym ev) (planned p image ram f c b) in
+    went expected_run (subst (λ (q : Regs). IsExpectedFrom expected_run q v) (sym er) from_view)
 
 pub run_of : (p : Program) (image : ProgImage) (ram places : List ℕ) (run : GuestRun) → IsBooted image ram → RanAs (expected_of p places) (Some run) → IsRunOf image p run
 run_of p image ram places run b done = record { ram = ram; booted = b; console = done.written; writes = done.counted; status = done.ended; instructions = done.made }

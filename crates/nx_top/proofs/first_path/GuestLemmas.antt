@@ -44,25 +44,25 @@ ends_in m n left h r r' r1 v v' v1 le e c =
     record { halt = ap (λ (x : End). x.halt) f; regs = ap (λ (x : End). x.regs) f; view = ap (λ (x : End). x.view) f; rest = omega arith }
 
 -- the next call of a planned run: a write, with what remains after it, or the end
-pub data Next (plan : ExpectedRun) (r : Regs) (v : View) (console : List ℕ) (writes used : ℕ) : Type 0 where
+pub data Next (expected_run : ExpectedRun) (r : Regs) (v : View) (console : List ℕ) (writes used : ℕ) : Type 0 where
   Writes : (string : List ℕ) (at : ℕ) → reg r 10 ≡ 16 → reg r 11 ≡ 1 → reg r 12 ≡ at → reg r 13 ≡ length string → at + length string ≤ 2 ^ 32 → LiesAt v string at
-      → Remains plan (with_reg r 10 (length string)) v (console ++ string) (writes + 1) used → Next plan r v console writes used
-  Ends : reg r 10 ≡ 1 → reg r 11 ≡ plan.status → IsDone plan plan.status console writes used → Next plan r v console writes used
+      → Remains expected_run (with_reg r 10 (length string)) v (console ++ string) (writes + 1) used → Next expected_run r v console writes used
+  Ends : reg r 10 ≡ 1 → reg r 11 ≡ expected_run.status → IsDone expected_run expected_run.status console writes used → Next expected_run r v console writes used
 
-pub record Comes (h : Halt) (plan : ExpectedRun) (r : Regs) (v new : View) (console : List ℕ) (writes used : ℕ) : Type 0 where
+pub record Comes (h : Halt) (expected_run : ExpectedRun) (r : Regs) (v new : View) (console : List ℕ) (writes used : ℕ) : Type 0 where
   pub halt : h ≡ Call
   pub view : new ≡ v
-  pub next : Next plan r v console writes used
+  pub next : Next expected_run r v console writes used
 
 wrote : (string : List ℕ) (strings : List (List ℕ)) (console all : List ℕ) → console ++ joined (string ∷ strings) ≡ all → (console ++ string) ++ joined strings ≡ all
 wrote string strings console all e = append_assoc console string (joined strings) ∙ e
 
--- one call of the plan, from where it stands
-next_from : (plan : ExpectedRun) (strings : List (List ℕ)) (places : List ℕ) (r r' : Regs) (v new : View) (console : List ℕ) (writes used limit used' instructions : ℕ) (h : Halt)
-    → used ≤ limit → used' ≤ limit → plan.instructions ≤ limit → end_at r' new (limit - used') h ≡ stretch (limit - used) r v
-    → Makes (calls_of strings places plan.status) r v instructions → LieAt v strings places → used + instructions ≡ plan.instructions
-    → console ++ joined strings ≡ joined plan.strings → writes + length strings ≡ length plan.strings → Comes h plan r' v new console writes used'
-next_from plan [] [] r r' v new console writes used limit used' instructions h a b f e m lie total written counted =
+-- one call of the expected run, from where it stands
+next_from : (expected_run : ExpectedRun) (strings : List (List ℕ)) (places : List ℕ) (r r' : Regs) (v new : View) (console : List ℕ) (writes used limit used' instructions : ℕ) (h : Halt)
+    → used ≤ limit → used' ≤ limit → expected_run.instructions ≤ limit → end_at r' new (limit - used') h ≡ stretch (limit - used) r v
+    → Makes (calls_of strings places expected_run.status) r v instructions → LieAt v strings places → used + instructions ≡ expected_run.instructions
+    → console ++ joined strings ≡ joined expected_run.strings → writes + length strings ≡ length expected_run.strings → Comes h expected_run r' v new console writes used'
+next_from expected_run [] [] r r' v new console writes used limit used' instructions h a b f e m lie total written counted =
     let none : m.rest ≡ 0 = m.on in
     let le : m.made ≤ limit - used = omega (arith, m.sum) in
     let s = ends_in m.made (limit - used) (limit - used') h r r' m.regs v new v le e m.reaches in
@@ -70,14 +70,14 @@ next_from plan [] [] r r' v new console writes used limit used' instructions h a
     record {
       halt = s.halt;
       view = s.view;
-      next = Ends (subst (λ (x : Regs). reg x 10 ≡ 1) is m.words.0) (subst (λ (x : Regs). reg x 11 ≡ plan.status) is m.words.1.0) (record {
+      next = Ends (subst (λ (x : Regs). reg x 10 ≡ 1) is m.words.0) (subst (λ (x : Regs). reg x 11 ≡ expected_run.status) is m.words.1.0) (record {
         ended = refl;
         written = sym (append-nil console) ∙ written;
         counted = omega (arith, counted);
         made = omega (arith, m.sum, s.rest);
       });
     }
-next_from plan (string ∷ strings) (at ∷ places) r r' v new console writes used limit used' instructions h a b f e m lie total written counted =
+next_from expected_run (string ∷ strings) (at ∷ places) r r' v new console writes used limit used' instructions h a b f e m lie total written counted =
     let le : m.made ≤ limit - used = omega (arith, m.sum) in
     let s = ends_in m.made (limit - used) (limit - used') h r r' m.regs v new v le e m.reaches in
     let is = sym s.regs in
@@ -88,18 +88,18 @@ next_from plan (string ∷ strings) (at ∷ places) r r' v new console writes us
         strings = strings;
         places = places;
         instructions = m.rest;
-        makes = subst (λ (x : Regs). Makes (calls_of strings places plan.status) (with_reg x 10 (length string)) v m.rest) is m.on;
+        makes = subst (λ (x : Regs). Makes (calls_of strings places expected_run.status) (with_reg x 10 (length string)) v m.rest) is m.on;
         lie = lie.2;
         total = omega (arith, m.sum, s.rest);
-        written = wrote string strings console (joined plan.strings) written;
+        written = wrote string strings console (joined expected_run.strings) written;
         counted = omega (arith, counted);
       });
     }
-next_from plan [] (at ∷ places) r r' v new console writes used limit used' instructions h a b f e m lie total written counted = absurd lie
-next_from plan (string ∷ strings) [] r r' v new console writes used limit used' instructions h a b f e m lie total written counted = absurd lie
+next_from expected_run [] (at ∷ places) r r' v new console writes used limit used' instructions h a b f e m lie total written counted = absurd lie
+next_from expected_run (string ∷ strings) [] r r' v new console writes used limit used' instructions h a b f e m lie total written counted = absurd lie
 
-pub next_of : (plan : ExpectedRun) (r r' : Regs) (v new : View) (console : List ℕ) (writes used limit used' limit' : ℕ) (h : Halt)
-    → used ≤ limit → used' ≤ limit' → limit' ≡ limit → IsWithin plan limit → end_at r' new (limit' - used') h ≡ stretch (limit - used) r v
-    → Remains plan r v console writes used → Comes h plan r' v new console writes used'
-next_of plan r r' v new console writes used limit used' limit' h a b l w e s =
-    next_from plan s.strings s.places r r' v new console writes used limit used' s.instructions h a (omega arith) w.fuel (ap (λ n. end_at r' new (n - used') h) (sym l) ∙ e) s.makes s.lie s.total s.written s.counted
+pub next_of : (expected_run : ExpectedRun) (r r' : Regs) (v new : View) (console : List ℕ) (writes used limit used' limit' : ℕ) (h : Halt)
+    → used ≤ limit → used' ≤ limit' → limit' ≡ limit → IsWithin expected_run limit → end_at r' new (limit' - used') h ≡ stretch (limit - used) r v
+    → Remains expected_run r v console writes used → Comes h expected_run r' v new console writes used'
+next_of expected_run r r' v new console writes used limit used' limit' h a b l w e s =
+    next_from expected_run s.strings s.places r r' v new console writes used limit used' s.instructions h a (omega arith) w.fuel (ap (λ n. end_at r' new (n - used') h) (sym l) ∙ e) s.makes s.lie s.total s.written s.counted

@@ -31,41 +31,41 @@ LieAt v (string ∷ strings) (at ∷ places) = (at + length string ≤ 2 ^ 32) �
 LieAt v _ _ = ⊥
 
 -- what remains of a planned run, once some of it was made
-pub record Remains (plan : ExpectedRun) (r : Regs) (v : View) (console : List ℕ) (writes used : ℕ) : Type 0 where
+pub record Remains (expected_run : ExpectedRun) (r : Regs) (v : View) (console : List ℕ) (writes used : ℕ) : Type 0 where
   pub strings : List (List ℕ)
   pub places : List ℕ
   pub instructions : ℕ
-  pub makes : Makes (calls_of strings places plan.status) r v instructions
+  pub makes : Makes (calls_of strings places expected_run.status) r v instructions
   pub lie : LieAt v strings places
-  pub total : used + instructions ≡ plan.instructions
-  pub written : console ++ joined strings ≡ joined plan.strings
-  pub counted : writes + length strings ≡ length plan.strings
+  pub total : used + instructions ≡ expected_run.instructions
+  pub written : console ++ joined strings ≡ joined expected_run.strings
+  pub counted : writes + length strings ≡ length expected_run.strings
 
 -- a planned run was made whole
-pub record IsDone (plan : ExpectedRun) (status : ℕ) (console : List ℕ) (writes used : ℕ) : Type 0 where
-  pub ended : status ≡ plan.status
-  pub written : console ≡ joined plan.strings
-  pub counted : writes ≡ length plan.strings
-  pub made : used ≡ plan.instructions
+pub record IsDone (expected_run : ExpectedRun) (status : ℕ) (console : List ℕ) (writes used : ℕ) : Type 0 where
+  pub ended : status ≡ expected_run.status
+  pub written : console ≡ joined expected_run.strings
+  pub counted : writes ≡ length expected_run.strings
+  pub made : used ≡ expected_run.instructions
 
 -- what an answer means for a planned run
 abbrev pub AfterTurn : ExpectedRun → CallOutcome → Regs → View → List ℕ → ℕ → ℕ → Type 0
-AfterTurn plan Wrote r v console writes used = Remains plan r v console writes used
-AfterTurn plan (Ended status) r v console writes used = IsDone plan status console writes used
-AfterTurn plan Stray r v console writes used = ⊥
+AfterTurn expected_run Wrote r v console writes used = Remains expected_run r v console writes used
+AfterTurn expected_run (Ended status) r v console writes used = IsDone expected_run status console writes used
+AfterTurn expected_run Stray r v console writes used = ⊥
 
--- a plan whose calls come within a limit
-pub record IsWithin (plan : ExpectedRun) (limit : ℕ) : Type 0 where
-  pub fuel : plan.instructions ≤ limit
-  pub small : plan.status ≤ 255
+-- an expected run whose calls come within a limit
+pub record IsWithin (expected_run : ExpectedRun) (limit : ℕ) : Type 0 where
+  pub fuel : expected_run.instructions ≤ limit
+  pub small : expected_run.status ≤ 255
 
--- the words in a view follow a plan from these registers on
-pub record IsExpectedFrom (plan : ExpectedRun) (r : Regs) (v : View) : Type 0 where
-  pub within : IsWithin plan fuel
-  pub makes : Makes (calls_of plan.strings plan.places plan.status) r v plan.instructions
-  pub lie : LieAt v plan.strings plan.places
+-- the words in a view follow an expected run from these registers on
+pub record IsExpectedFrom (expected_run : ExpectedRun) (r : Regs) (v : View) : Type 0 where
+  pub within : IsWithin expected_run fuel
+  pub makes : Makes (calls_of expected_run.strings expected_run.places expected_run.status) r v expected_run.instructions
+  pub lie : LieAt v expected_run.strings expected_run.places
 
 -- a run that went as planned
 abbrev pub RanAs : ExpectedRun → Option GuestRun → Type 0
-RanAs plan None = ⊥
-RanAs plan (Some run) = IsDone plan run.status run.console run.writes run.instructions
+RanAs expected_run None = ⊥
+RanAs expected_run (Some run) = IsDone expected_run run.status run.console run.writes run.instructions

@@ -16,9 +16,9 @@ abbrev pub Fails : {Y : Type 0} → ReadStop → Option Y → Type 0
 Fails stop.Memory read = Unit {0}
 Fails stop.Refused read = read ≡ None
 
-abbrev pub Gives : {X Y : Type 0} → (X → Y) → Result X ReadStop → Option Y → Type 0
-Gives view (Ok x) read = read ≡ Some (view x)
-Gives view (Err e) read = Fails e read
+abbrev pub AgreesWith : {X Y : Type 0} → (X → Y) → Result X ReadStop → Option Y → Type 0
+AgreesWith view (Ok x) read = read ≡ Some (view x)
+AgreesWith view (Err e) read = Fails e read
 
 abbrev pub begins_blank : List ℕ → Bool
 begins_blank [] = false

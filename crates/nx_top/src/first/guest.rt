@@ -130,8 +130,8 @@ impl Guest {
         ensures limit { self.new.count.limit ≡ self.old.count.limit }
         ensures entered { IsEntered (S.world space.new) }
         ensures made { result ≡ Ok CallOutcome.Wrote → (self.old.count.used < self.new.count.used) × (self.new.writes ≤ self.new.count.used) × (self.new.count.used ≤ self.new.count.limit) }
-        ensures planned { IfOk result (λ a. (plan : ExpectedRun) → IsWithin plan self.old.count.limit → Remains plan self.old.machine (view_in (S.world space.old)) self.old.console self.old.writes self.old.count.used
-            → AfterTurn plan a self.new.machine (view_in (S.world space.new)) self.new.console self.new.writes self.new.count.used) }
+        ensures planned { IfOk result (λ a. (expected_run : ExpectedRun) → IsWithin expected_run self.old.count.limit → Remains expected_run self.old.machine (view_in (S.world space.old)) self.old.console self.old.writes self.old.count.used
+            → AfterTurn expected_run a self.new.machine (view_in (S.world space.new)) self.new.console self.new.writes self.new.count.used) }
     {
         match self.machine.run(space, &mut self.count) {
             Stop::Call => self.answer(space),
@@ -148,7 +148,7 @@ pub fn run_guest<S: Space>(
     space: &mut S,
 ) -> Result<Option<GuestRun>, AllocError>
     requires { IsEntered (S.world space.old) }
-    ensures { IfOk result (λ run. (plan : ExpectedRun) → IsExpectedFrom plan regs (view_in (S.world space.old)) → RanAs plan run) }
+    ensures { IfOk result (λ run. (expected_run : ExpectedRun) → IsExpectedFrom expected_run regs (view_in (S.world space.old)) → RanAs expected_run run) }
 {
     let mut machine = Machine::new();
     machine.set(regs);

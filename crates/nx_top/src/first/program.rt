@@ -4,7 +4,7 @@ ghost use Rattle.std.specs.Prelude.{◌≡◌, ℕ, List, [], ◌∷◌, ◌++�
 ghost use Rattle.std.specs.Option.{option_map};
 ghost use Rattle.nx_top.specs.first.Program.{Program, IsProgram};
 ghost use Rattle.nx_top.specs.first.ProgramReading as read;
-ghost use Rattle.nx_top.specs.first.ProgramReading.{Gives};
+ghost use Rattle.nx_top.specs.first.ProgramReading.{AgreesWith};
 ghost use Rattle.nx_top.specs.declared.first.program.ReadStop.TheVariants.{Memory};
 
 use crate::first::tokens::{after_token, after_tokens, are_blanks, number_at};
@@ -95,7 +95,7 @@ fn with_byte(text: Vec<u8>, byte: u8) -> Result<Vec<u8>, AllocError>
 
 #[tactic(auto, unfolding(crate::specs::first::ProgramReading::string_from))]
 fn string_from(left: u32, text: Vec<u8>, bytes: &[u8]) -> Result<(Vec<u8>, &[u8]), ReadStop>
-    ensures { Gives (λ x. (x.0.items, x.1.now)) result (read.string_from left text.items bytes.now) }
+    ensures { AgreesWith (λ x. (x.0.items, x.1.now)) result (read.string_from left text.items bytes.now) }
 {
     if left == 0 {
         return Err(ReadStop::Refused);
@@ -113,7 +113,7 @@ fn string_from(left: u32, text: Vec<u8>, bytes: &[u8]) -> Result<(Vec<u8>, &[u8]
 
 #[tactic(auto, unfolding(crate::specs::first::ProgramReading::string_at))]
 fn string_at(alloc: Global, bytes: &[u8]) -> Result<(Vec<u8>, &[u8]), ReadStop>
-    ensures { Gives (λ x. (x.0.items, x.1.now)) result (read.string_at bytes.now) }
+    ensures { AgreesWith (λ x. (x.0.items, x.1.now)) result (read.string_at bytes.now) }
 {
     let rest = after_token(bytes, false, b"\"").ok_or(ReadStop::Refused)?;
     let (text, rest) = string_from(256, Vec::new(alloc), rest)?;
@@ -138,7 +138,7 @@ fn write_end(bytes: &[u8], count: usize) -> Option<&[u8]>
 
 #[tactic(auto, unfolding(crate::specs::first::ProgramReading::write_at))]
 fn write_at(alloc: Global, bytes: &[u8]) -> Result<(Vec<u8>, &[u8]), ReadStop>
-    ensures { Gives (λ x. (x.0.items, x.1.now)) result (read.write_at bytes.now) }
+    ensures { AgreesWith (λ x. (x.0.items, x.1.now)) result (read.write_at bytes.now) }
 {
     let rest = after_tokens(bytes, false, &["write", "(", "1", ","]).ok_or(ReadStop::Refused)?;
     let (text, rest) = string_at(alloc, rest)?;
@@ -174,7 +174,7 @@ fn body_from(
     writes: Vec<Bytes>,
     bytes: &[u8],
 ) -> Result<WriteProgram, ReadStop>
-    ensures { Gives (λ p. p) result (read.body_from left writes.items bytes.now) }
+    ensures { AgreesWith (λ p. p) result (read.body_from left writes.items bytes.now) }
 {
     if left == 0 {
         return Err(ReadStop::Refused);
@@ -191,7 +191,7 @@ fn body_from(
 
 #[tactic(auto, unfolding(crate::specs::first::ProgramReading::reading))]
 fn reading(alloc: Global, bytes: &[u8]) -> Result<WriteProgram, ReadStop>
-    ensures { Gives (λ p. p) result (read.reading bytes.now) }
+    ensures { AgreesWith (λ p. p) result (read.reading bytes.now) }
 {
     let rest = after_tokens(bytes, false, &["int", "main", "(", "void", ")", "{"]).ok_or(
         ReadStop::Refused,

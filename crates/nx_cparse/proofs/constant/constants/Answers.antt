@@ -1,7 +1,7 @@
 use Rattle.std.proofs.Common.{◌≡◌, ◌<◌, length, arith, sym, ◌∙◌, ap}
 use Rattle.std.specs.Prelude.{Ok, Err, Some, None}
 use Rattle.nx_grammar.specs.declared.kind.Kind.TheVariants.{Syntax}
-use Rattle.nx_grammar.specs.Chains.{behind}
+use Rattle.nx_grammar.specs.Chains.{after_first}
 use Rattle.nx_grammar.specs.Lawful.{Any}
 use Rattle.nx_ctree.specs.declared.sign.Sign.TheVariants as sign
 use Rattle.nx_cexpr.specs.Signs.{is_sign}
@@ -14,12 +14,12 @@ use Rattle.nx_cparse.proofs.constant.constants.Goals as goal
 
 pub returns-in-Err-clause-gives : goal.returns-in-Err-clause-gives
 returns-in-Err-clause-gives c =
-    let is : behind (is_sign sign.Comma) c.loop-others.rest ≡ Some c.in-Some.others.now = ap (behind (is_sign sign.Comma)) (sym c.tokens.ensures) ∙ sym c.in-Some.ensures.gives in
+    let is : after_first (is_sign sign.Comma) c.loop-others.rest ≡ Some c.in-Some.others.now = ap (after_first (is_sign sign.Comma)) (sym c.tokens.ensures) ∙ sym c.in-Some.ensures.gives in
     fails_on c.in-Err.stop _ _ _ (sym c.loop-others.invariant.same ∙ others_step constant_at Any (Is sign.Number) constant_law c.loop-others.items c.loop-others.rest c.in-Some.others.now is) c.in-Err.ensures.gives
 
 pub loop-others-preserved : goal.loop-others-preserved
 loop-others-preserved c =
-    let is : behind (is_sign sign.Comma) c.loop-others.rest ≡ Some c.in-Some.others.now = ap (behind (is_sign sign.Comma)) (sym c.tokens.ensures) ∙ sym c.in-Some.ensures.gives in
+    let is : after_first (is_sign sign.Comma) c.loop-others.rest ≡ Some c.in-Some.others.now = ap (after_first (is_sign sign.Comma)) (sym c.tokens.ensures) ∙ sym c.in-Some.ensures.gives in
     record {
       same = ap (λ ts. others constant_at c.add_constant-in-Some.new.items ts) c.new-rest-in-Ok.ensures
           ∙ others_more constant_at Any (Is sign.Number) constant_law c.loop-others.items c.add_constant-in-Some.new.items c.loop-others.rest c.in-Some.others.now c.in-Ok.after.now is c.in-Ok.ensures.gives
@@ -29,12 +29,12 @@ loop-others-preserved c =
 
 pub returns-in-empty-clause-gives : goal.returns-in-empty-clause-gives
 returns-in-empty-clause-gives c =
-    let is : behind (is_sign sign.Comma) c.loop-others.rest ≡ None = ap (behind (is_sign sign.Comma)) (sym c.tokens.ensures) ∙ sym c.in_default.ensures.gives in
+    let is : after_first (is_sign sign.Comma) c.loop-others.rest ≡ None = ap (after_first (is_sign sign.Comma)) (sym c.tokens.ensures) ∙ sym c.in_default.ensures.gives in
     let short : length c.loop-others.rest < 1 = omega (arith, c.in-empty.len_below, ap length c.tokens-2.ensures) in
     sym c.loop-others.invariant.same ∙ others_over constant_at Any (Is sign.Number) constant_law c.loop-others.items c.loop-others.rest is ∙ closed_empty c.loop-others.items c.loop-others.rest short ∙ ap (λ ts. Err (Syntax, ts)) (sym c.tokens-in-empty.ensures)
 
 pub returns-clause-gives : goal.returns-clause-gives
 returns-clause-gives c =
-    let is : behind (is_sign sign.Comma) c.loop-others.rest ≡ None = ap (behind (is_sign sign.Comma)) (sym c.tokens.ensures) ∙ sym c.in_default.ensures.gives in
+    let is : after_first (is_sign sign.Comma) c.loop-others.rest ≡ None = ap (after_first (is_sign sign.Comma)) (sym c.tokens.ensures) ∙ sym c.in_default.ensures.gives in
     let full : 0 < length c.loop-others.rest = omega (arith, c.in_default-tokens.len_at_least, ap length c.tokens-2.ensures) in
     sym c.loop-others.invariant.same ∙ others_over constant_at Any (Is sign.Number) constant_law c.loop-others.items c.loop-others.rest is ∙ closed_full c.loop-others.items c.loop-others.rest full ∙ ap (λ ts. Ok (c.loop-others.items, ts)) (sym c.tokens-2.ensures)

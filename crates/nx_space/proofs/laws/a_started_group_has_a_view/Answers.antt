@@ -1,8 +1,8 @@
 use Rattle.nx_space.proofs.Joins.{started_plan, started_has_view, others_have_views}
 use Rattle.nx_space.proofs.laws.a_started_group_has_a_view.Goals as goal
 
-pub returns-clause-plan : goal.returns-clause-plan
-returns-clause-plan c = started_plan
+pub returns-clause-memory_map : goal.returns-clause-memory_map
+returns-clause-memory_map c = started_plan
 
 pub returns-clause-own : goal.returns-clause-own
 returns-clause-own c = started_has_view

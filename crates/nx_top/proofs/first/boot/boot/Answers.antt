@@ -42,6 +42,6 @@ returns c =
     let low : c.args.image.data_at + 1 * 8192 ≡ stack_low (length c.args.image.text) = omega (arith, laid.data_at) in
     let lawful = flat_lawful c.in_ok-space.space.shared c.in_ok-space.space.lawful in
     record {
-      regs = c.in-Ok.ensures.regs ∙ ap (λ (w : World). space_regs w.plan 0 1) c.in_ok-space.ensures ∙ regs_booted c.args.image s 0 1 room.program low refl;
+      regs = c.in-Ok.ensures.regs ∙ ap (λ (w : World). space_regs w.memory_map 0 1) c.in_ok-space.ensures ∙ regs_booted c.args.image s 0 1 room.program low refl;
       sees = booted_space c.args.image s 2 0 1 true _ _ _ booted room lawful c.in_ok-space.ensures c.in-Ok.ensures.started c.enter.ensures;
     }

@@ -14,14 +14,14 @@ loop-guest-preserved g c =
       limit = c.turn.ensures.limit ∙ c.loop-guest.invariant.limit;
       room = made.1;
       within = made.2;
-      planned = λ plan expected.
-          let within = subst (IsWithin plan) (sym c.loop-guest.invariant.limit) expected.within in
-          subst (λ (a : CallOutcome). AfterTurn plan a new.machine (view_in (g.S.Space.world c.turn.new.space)) new.console new.writes new.count.used) c.in-Wrote.is (c.in_ok-turn.ensures.planned plan within (c.loop-guest.invariant.planned plan expected));
+      planned = λ expected_run expected.
+          let within = subst (IsWithin expected_run) (sym c.loop-guest.invariant.limit) expected.within in
+          subst (λ (a : CallOutcome). AfterTurn expected_run a new.machine (view_in (g.S.Space.world c.turn.new.space)) new.console new.writes new.count.used) c.in-Wrote.is (c.in_ok-turn.ensures.planned expected_run within (c.loop-guest.invariant.planned expected_run expected));
     }
 
 pub returns-in-Ended : goal.returns-in-Ended
-returns-in-Ended g c = λ plan expected.
+returns-in-Ended g c = λ expected_run expected.
     let new = c.turn.new.self in
-    let within = subst (IsWithin plan) (sym c.loop-guest.invariant.limit) expected.within in
-    let done = subst (λ (a : CallOutcome). AfterTurn plan a new.machine (view_in (g.S.Space.world c.turn.new.space)) new.console new.writes new.count.used) c.in-Ended.is (c.in_ok-turn.ensures.planned plan within (c.loop-guest.invariant.planned plan expected)) in
-    subst (λ (run : GuestRun). IsDone plan run.status run.console run.writes run.instructions) (sym c.done.ensures) done
+    let within = subst (IsWithin expected_run) (sym c.loop-guest.invariant.limit) expected.within in
+    let done = subst (λ (a : CallOutcome). AfterTurn expected_run a new.machine (view_in (g.S.Space.world c.turn.new.space)) new.console new.writes new.count.used) c.in-Ended.is (c.in_ok-turn.ensures.planned expected_run within (c.loop-guest.invariant.planned expected_run expected)) in
+    subst (λ (run : GuestRun). IsDone expected_run run.status run.console run.writes run.instructions) (sym c.done.ensures) done

@@ -12,7 +12,7 @@ invariant-loop-guest g l =
       limit : l.guest.count.limit ≡ fuel;
       room : l.guest.writes ≤ l.guest.count.used;
       within : l.guest.count.used ≤ l.guest.count.limit;
-      planned : (plan : ExpectedRun) → IsExpectedFrom plan l.fn.regs (view_in (g.S.Space.world l.fn.space)) → Remains plan l.guest.machine view l.guest.console l.guest.writes l.guest.count.used;
+      planned : (expected_run : ExpectedRun) → IsExpectedFrom expected_run l.fn.regs (view_in (g.S.Space.world l.fn.space)) → Remains expected_run l.guest.machine view l.guest.console l.guest.writes l.guest.count.used;
     }
 
 abbrev pub decreases-loop-guest : goal.decreases-loop-guest

@@ -12,13 +12,13 @@ pub unreachable-requires : goal.unreachable-requires
 unreachable-requires c =
     let p = c.requires.compiled in
     let saw = c.in_ok-space.ensures.sees in
-    let plan = expected_of p.0 (keeps p.0 c.args.image p.1 p.2).places in
+    let expected_run = expected_of p.0 (keeps p.0 c.args.image p.1 p.2).places in
     let went = ran_as_expected p.0 c.args.image saw.0 p.1 p.2 _ _ _ saw.1 c.in_ok-space.ensures.regs saw.2 c.in_ok-run.ensures in
-    subst (λ (o : Option GuestRun). RanAs plan o) c.in-None.is went
+    subst (λ (o : Option GuestRun). RanAs expected_run o) c.in-None.is went
 
 pub returns : goal.returns
 returns c = λ p fits compiled.
     let saw = c.in_ok-space.ensures.sees in
-    let plan = expected_of p (keeps p c.args.image fits compiled).places in
+    let expected_run = expected_of p (keeps p c.args.image fits compiled).places in
     let went = ran_as_expected p c.args.image saw.0 fits compiled _ _ _ saw.1 c.in_ok-space.ensures.regs saw.2 c.in_ok-run.ensures in
-    run_of p c.args.image saw.0 _ c.in-Some.run' saw.1 (subst (λ (o : Option GuestRun). RanAs plan o) c.in-Some.is went)
+    run_of p c.args.image saw.0 _ c.in-Some.run' saw.1 (subst (λ (o : Option GuestRun). RanAs expected_run o) c.in-Some.is went)
