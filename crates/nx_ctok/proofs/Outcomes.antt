@@ -22,7 +22,7 @@ use Rattle.nx_ctok.specs.Longest.{word_at}
 use Rattle.nx_ctok.specs.Comments.{newlines, line_at, Comment, Absent, Open, Closed, comment_at, gap, after_blanks, all_steps, after_one_ignored, ends_line}
 use Rattle.nx_ctok.specs.Directives.{is_too_wide, Found, then_, name_at, constant_of, constant_at, value_at, ended, definition_at, Piece, Space, Spelled, Define, Wrong, defined, dropped, directive}
 use Rattle.nx_ctok.specs.Predefined.{number_text, predefined_of}
-use Rattle.nx_ctok.specs.Tokens.{checked, is_hash, uncommented, commented, piece_at, Definitions, predefined, at_first, with_definition, minus_tokens, replaced, meaning, ahead, Tokenizes, End, Refused, Skipped, Taken, Defined, Reads, IsSpelled, AreEnded, Last, Next}
+use Rattle.nx_ctok.specs.Tokens.{checked, is_hash, uncommented, commented, piece_at, Definitions, predefined, at_first, with_definition, minus_tokens, replaced, meaning, ahead, Tokenizes, End, Refused, Skipped, Taken, Defined, HasTokens, IsSpelled, AreEnded, Last, Next}
 use Rattle.nx_ctok.specs.Answers.{IsAnswer, IsGiven}
 use Rattle.nx_ctok.proofs.Words.{word_is_spelled}
 
@@ -77,7 +77,7 @@ one_outcome text fresh values bytes o p (Defined f v bs rest d out e x) (Defined
     one_outcome text false (with_definition v d') rest' out out' (subst (λ z. Tokenizes text false (with_definition v z) rest' out) s.0 (subst (λ r. Tokenizes text false (with_definition v d) r out) s.1 x)) y
 
 -- So what was answered is all that a text gives.
-pub only_answer : (text : List ℕ) (r : Result (Vec Token) CFault) → IsAnswer text r → (out : Result (List Token) CFault) → Reads text out → IsGiven r out
+pub only_answer : (text : List ℕ) (r : Result (Vec Token) CFault) → IsAnswer text r → (out : Result (List Token) CFault) → HasTokens text out → IsGiven r out
 only_answer text (Ok ts) a out x = one_outcome text true at_first text out (Ok ts.items) x a
 only_answer text (Err fault.Memory) a out x = tt
 only_answer text (Err (fault.Text line k)) a out x = one_outcome text true at_first text out (Err (fault.Text line k)) x a
@@ -299,5 +299,5 @@ gives_ended text fresh values bytes out a (Defined f v bs rest d o e x) =
     gives_ended text false (with_definition v d) rest o (more_are v d a (subst IsPiece e (piece_is f bs))) x
 
 -- The tokens of a text end so.
-pub reads_ended : (text : List ℕ) (ts : List Token) → Reads text (Ok ts) → AreEnded ts
+pub reads_ended : (text : List ℕ) (ts : List Token) → HasTokens text (Ok ts) → AreEnded ts
 reads_ended text ts x = gives_ended text true at_first text (Ok ts) first_are x

@@ -12,9 +12,9 @@ use Rattle.nx_ctok.specs.declared.value.Definition.{Definition}
 use Rattle.nx_ctok.specs.declared.reader.Reader.{Reader}
 use Rattle.nx_ctok.specs.Comments.{newlines, line_at}
 use Rattle.nx_ctok.specs.Directives.{Space, Spelled, Define, Wrong}
-use Rattle.nx_ctok.specs.Tokens.{Definitions, with_definition, meaning, replaced, ahead, piece_at, Tokenizes, End, Refused, Skipped, Taken, Defined, Reads}
+use Rattle.nx_ctok.specs.Tokens.{Definitions, with_definition, meaning, replaced, ahead, piece_at, Tokenizes, End, Refused, Skipped, Taken, Defined, HasTokens}
 use Rattle.nx_ctok.specs.Views.{IsLeft, values_in}
-use Rattle.nx_ctok.specs.Reading.{TokenizesFrom, Follows, Reached}
+use Rattle.nx_ctok.specs.Reading.{TokenizesFrom, LeadsTo, Reached}
 use Rattle.nx_ctok.proofs.Definitions.{values_none}
 
 -- No tokens before others.
@@ -47,8 +47,8 @@ passed n a b e = by (nat_lt 0 n) refl
         not_less l = grind (arith, le-ltb a b l)
 
 pub follow_space : (old new : Reader) (rest after : List ℕ) (n : ℕ) → piece_at old.fresh rest ≡ Space after → IsLeft after n rest →
-    new ≡ record old { line = old.line + n; fresh = old.fresh || nat_lt 0 n } → Follows old rest new after
-follow_space old new rest after n e left is = subst (λ r. Follows old rest r after) (sym is) (record {
+    new ≡ record old { line = old.line + n; fresh = old.fresh || nat_lt 0 n } → LeadsTo old rest new after
+follow_space old new rest after n e left is = subst (λ r. LeadsTo old rest r after) (sym is) (record {
   found = [];
   is = sym (append-nil old.found.items);
   line = omega (arith, left.lines);
@@ -61,7 +61,7 @@ follow_space old new rest after n e left is = subst (λ r. Follows old rest r af
 
 pub follow_word : (old new : Reader) (rest : List ℕ) (w : Word) → piece_at old.fresh rest ≡ Spelled w → IsLeft w.rest 0 rest →
     new.found.items ≡ old.found.items ++ replaced old.line w.kind w.text (meaning (values_in old.table) w.kind w.text) → new.table ≡ old.table → new.line ≡ old.line → new.fresh ≡ false →
-    Follows old rest new w.rest
+    LeadsTo old rest new w.rest
 follow_word old new rest w e left f t l n = record {
   found = replaced old.line w.kind w.text (meaning (values_in old.table) w.kind w.text);
   is = f;
@@ -74,7 +74,7 @@ follow_word old new rest w e left f t l n = record {
 }
 
 pub follow_definition : (old new : Reader) (rest after : List ℕ) (d : Definition) → piece_at old.fresh rest ≡ Define d after → IsLeft after 0 rest →
-    new.found.items ≡ old.found.items → values_in new.table ≡ with_definition (values_in old.table) d → new.line ≡ old.line → new.fresh ≡ false → Follows old rest new after
+    new.found.items ≡ old.found.items → values_in new.table ≡ with_definition (values_in old.table) d → new.line ≡ old.line → new.fresh ≡ false → LeadsTo old rest new after
 follow_definition old new rest after d e left f t l n = record {
   found = [];
   is = f ∙ sym (append-nil old.found.items);
@@ -94,21 +94,21 @@ pub reached_first : (text : List ℕ) (r : Reader) → r.found.items ≡ [] → 
 reached_first text r f t l n = record {
   first = omega (arith, l);
   line = ap (λ m. m + newlines text) l;
-  gives = λ out x. subst (λ ts. Reads text (ahead ts out)) (sym f) (subst (λ o. Reads text o) (ahead_none out)
+  gives = λ out x. subst (λ ts. HasTokens text (ahead ts out)) (sym f) (subst (λ o. HasTokens text o) (ahead_none out)
       (subst (λ v. Tokenizes text true v text out) (ap values_in t ∙ values_none) (subst (λ q. Tokenizes text q (values_in r.table) text out) n x)));
 }
 
-pub reached_next : (text : List ℕ) (old new : Reader) (rest after : List ℕ) → Reached text old rest → Follows old rest new after → Reached text new after
+pub reached_next : (text : List ℕ) (old new : Reader) (rest after : List ℕ) → Reached text old rest → LeadsTo old rest new after → Reached text new after
 reached_next text old new rest after r f = record {
   first = omega (arith, r.first, f.later);
   line = omega (arith, r.line, f.line);
-  gives = λ out x. subst (λ ts. Reads text (ahead ts out)) (sym f.is) (subst (λ o. Reads text o) (ahead_more old.found.items f.found out)
+  gives = λ out x. subst (λ ts. HasTokens text (ahead ts out)) (sym f.is) (subst (λ o. HasTokens text o) (ahead_more old.found.items f.found out)
       (r.gives (ahead f.found out) (f.gives text (line_there text rest old.line r.first r.line) out x)));
 }
 
 -- At the end.
 pub reached_end : (text : List ℕ) (r : Reader) (rest : List ℕ) → rest ≡ [] → Reached text r rest →
-    Reads text (Ok (r.found.items ++ record { kind = kind.End; text = rest; line = r.line } ∷ []))
+    HasTokens text (Ok (r.found.items ++ record { kind = kind.End; text = rest; line = r.line } ∷ []))
 reached_end text r rest e x =
     let l : r.line ≡ line_at text rest = line_there text rest r.line x.first x.line in
     let at : (bs : List ℕ) → bs ≡ [] → TokenizesFrom text r bs (Ok (record { kind = kind.End; text = bs; line = line_at text bs } ∷ [])) =
@@ -118,7 +118,7 @@ reached_end text r rest e x =
 
 -- Where the rest is refused, the text is.
 pub reached_fault : (text : List ℕ) (r : Reader) (rest : List ℕ) (line : ℕ) (k : CKind) → Reached text r rest →
-    ((t : List ℕ) → r.line ≡ line_at t rest → TokenizesFrom t r rest (Err (fault.Text line k))) → Reads text (Err (fault.Text line k))
+    ((t : List ℕ) → r.line ≡ line_at t rest → TokenizesFrom t r rest (Err (fault.Text line k))) → HasTokens text (Err (fault.Text line k))
 reached_fault text r rest line k x f = x.gives (Err (fault.Text line k)) (f text (line_there text rest r.line x.first x.line))
 
 -- A text has no more newlines than bytes.

@@ -4,16 +4,16 @@ use Rattle.std.specs.Global.{Vec}
 use Rattle.nx_ctok.specs.declared.fault.CFault.{CFault}
 use Rattle.nx_ctok.specs.declared.fault.CFault.TheVariants as fault
 use Rattle.nx_ctok.specs.declared.token.Token.{Token}
-use Rattle.nx_ctok.specs.Tokens.{Reads}
+use Rattle.nx_ctok.specs.Tokens.{HasTokens}
 
 -- A fault is the text's, unless memory ran out.
 abbrev pub Faults : List ℕ → CFault → Type 0
 Faults text fault.Memory = Unit {0}
-Faults text (fault.Text line kind) = Reads text (Err (fault.Text line kind))
+Faults text (fault.Text line kind) = HasTokens text (Err (fault.Text line kind))
 
 -- What was answered is what the text gives, unless memory ran out.
 abbrev pub IsAnswer : List ℕ → Result (Vec Token) CFault → Type 0
-IsAnswer text (Ok ts) = Reads text (Ok ts.items)
+IsAnswer text (Ok ts) = HasTokens text (Ok ts.items)
 IsAnswer text (Err e) = Faults text e
 
 -- A fault that was answered is this, unless memory ran out.

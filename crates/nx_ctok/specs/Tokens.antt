@@ -99,8 +99,8 @@ pub data Tokenizes (text : List ℕ) : Bool → Definitions → List ℕ → Res
       Tokenizes text false (with_definition values d) rest out → Tokenizes text fresh values bytes out
 
 -- What a text gives.
-abbrev pub Reads : List ℕ → Result (List Token) CFault → Type 0
-Reads text out = Tokenizes text true at_first text out
+abbrev pub HasTokens : List ℕ → Result (List Token) CFault → Type 0
+HasTokens text out = Tokenizes text true at_first text out
 
 -- A token that is not the end, spelled as its kind is.
 abbrev pub IsSpelled : Token → Type 0

@@ -3,7 +3,7 @@ ghost use Rattle.nx_ctok.specs.declared.fault.CFault.TheVariants.{Memory};
 ghost use Rattle.nx_ctok.specs.Comments.{newlines};
 ghost use Rattle.nx_ctok.specs.Tokens.{minus_tokens, value_tokens, replaced as replaced_by, meaning as meaning_of, with_definition};
 ghost use Rattle.nx_ctok.specs.Views.{values_in, IsLeft};
-ghost use Rattle.nx_ctok.specs.Reading.{Follows, IsRefused};
+ghost use Rattle.nx_ctok.specs.Reading.{LeadsTo, IsRefused};
 
 use crate::fault::CFault;
 use crate::piece::{Piece, piece_at};
@@ -127,7 +127,7 @@ impl<'a> Reader<'a> {
     pub(crate) fn take(&mut self, alloc: Global, rest: &'a [u8]) -> Result<&'a [u8], CFault>
         requires more { 0 < length rest.now }
         requires line { self.old.line + newlines rest.now ≤ 1048577 }
-        ensures ok { IfOk result (λ after. Follows self.old rest.now self.new after.now) }
+        ensures ok { IfOk result (λ after. LeadsTo self.old rest.now self.new after.now) }
         ensures err { IfErr result (λ e. IsRefused e self.old rest.now) }
     {
         match piece_at(self.fresh, rest) {

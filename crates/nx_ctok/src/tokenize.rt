@@ -4,7 +4,7 @@ ghost use Rattle.nx_ctok.specs.declared.token.Token.{Token as TokenOf};
 ghost use Rattle.nx_ctok.specs.declared.token.TokenKind.TheVariants.{End};
 ghost use Rattle.nx_ctok.specs.Answers.{IsAnswer, IsGiven};
 ghost use Rattle.nx_ctok.specs.Reading.{Reached};
-ghost use Rattle.nx_ctok.specs.Tokens.{Reads, AreEnded};
+ghost use Rattle.nx_ctok.specs.Tokens.{HasTokens, AreEnded};
 
 use crate::fault::CFault;
 use crate::reader::Reader;
@@ -63,7 +63,7 @@ pub fn tokens(alloc: Global, bytes: &[u8]) -> Result<Vec<Token<'_>>, CFault>
     // The answer is what the text gives: its tokens, or its first fault.
     ensures read { IsAnswer bytes.now result }
     // What the text gives is answered, unless memory runs out.
-    ensures only { (out : Result (List TokenOf) Fault) → Reads bytes.now out → IsGiven result out }
+    ensures only { (out : Result (List TokenOf) Fault) → HasTokens bytes.now out → IsGiven result out }
     // The list ends with its only end, and each other token is spelled as its kind is.
     ensures ended { IfOk result (λ ts. AreEnded ts.items) }
 {

@@ -4,7 +4,7 @@ use Rattle.std.proofs.lemmas.Bool.{leb-true, le-leb, eqb-true, eq-eqb, ltb-true,
 use Rattle.std.proofs.lemmas.Bool.Decides.{nat_tests}
 use Rattle.std.proofs.lemmas.Fmt.{decimal_digit, decimal_step}
 use Rattle.nx_base.specs.TextBytes.{is_word_byte}
-use Rattle.nx_top.specs.first.Program.{is_blank, begins_word, ends_word}
+use Rattle.nx_top.specs.first.Program.{is_gap_byte, begins_word, ends_word}
 use Rattle.nx_top.specs.first.ProgramReading.{begins_blank, is_digit, begins_digit, number_from, digits_at}
 use Rattle.nx_top.proofs.first_path.Choices.{guard_some, guard_none, chosen, both, told}
 
@@ -147,7 +147,7 @@ pub record Digits (n : ℕ) : Type 0 where
 digit_word : (d : ℕ) → d < 10 → is_word_byte (48 + d) ≡ true
 digit_word d h = grind (arith, nat_tests, le-leb)
 
-digit_ink : (d : ℕ) → is_blank (48 + d) ≡ false
+digit_ink : (d : ℕ) → is_gap_byte (48 + d) ≡ false
 digit_ink d = grind (arith, nat_tests)
 
 begun : (n d : ℕ) (ds : List ℕ) → decimal n ≡ (48 + d) ∷ ds → d < 10 → ends_word ((48 + d) ∷ ds) ≡ true → Digits n

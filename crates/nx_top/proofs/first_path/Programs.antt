@@ -3,7 +3,7 @@ use Rattle.std.proofs.Common.{◌≡◌, ◌≢◌, ◌⊎◌, ℕ, zero, suc, �
 use Rattle.std.specs.List.{list_all, AllByRecursion}
 use Rattle.std.proofs.lemmas.Bool.{eqb-true}
 use Rattle.std.proofs.lemmas.List.Elements.{All-from_recursion}
-use Rattle.nx_top.specs.first.Program.{Program, is_blank, begins_word, quoted, write_tokens, tokens_of, Spelled, IsString, IsProgram}
+use Rattle.nx_top.specs.first.Program.{Program, is_gap_byte, begins_word, quoted, write_tokens, tokens_of, Spelled, IsString, IsProgram}
 use Rattle.nx_top.specs.first.Program.Spelled.{Done}
 use Rattle.nx_top.specs.first.ProgramReading.{◌>>=◌, begins_digit, is_digit, after_gap, after_token, after_tokens, digits_at, number_at, string_at, write_end, write_at, end_of, end_or, body_from, reading}
 use Rattle.nx_top.proofs.first_path.Choices.{bind_some, guard_some, both, told}
@@ -62,12 +62,12 @@ number_whole word n others bytes small apart s =
 
 -- the tokens of a write are those before its string, and those after it
 
-blank_digit : (b : ℕ) → is_blank b ≡ true → is_digit b ≡ false
+blank_digit : (b : ℕ) → is_gap_byte b ≡ true → is_digit b ≡ false
 blank_digit b e = elim (told (b == 32)) [ inl k ↦ ap is_digit (eqb-true b 32 k) | inr k ↦ ap is_digit (eqb-true b 10 (subst (λ (a : Bool). (a || (b == 10)) ≡ true) k e)) ]
 
-blank_front : (blanks t : List ℕ) → list_all is_blank blanks ≡ true → begins_digit t ≡ false → begins_digit (blanks ++ t) ≡ false
+blank_front : (blanks t : List ℕ) → list_all is_gap_byte blanks ≡ true → begins_digit t ≡ false → begins_digit (blanks ++ t) ≡ false
 blank_front [] t all e = e
-blank_front (b ∷ bs) t all e = blank_digit b (both (is_blank b) (list_all is_blank bs) all).0
+blank_front (b ∷ bs) t all e = blank_digit b (both (is_gap_byte b) (list_all is_gap_byte bs) all).0
 
 pub apart_tokens : (token : List ℕ) (tokens : List (List ℕ)) (bytes : List ℕ) → ((rest : List ℕ) → begins_digit (token ++ rest) ≡ false) → Spelled true (token ∷ tokens) bytes → begins_digit bytes ≡ false
 apart_tokens token tokens bytes h s = let t = spelt true token tokens bytes s in ap begins_digit t.is ∙ blank_front t.blanks (token ++ t.rest) t.all (h t.rest)
@@ -133,9 +133,9 @@ record Ended (writes : List (List ℕ)) (bytes : List ℕ) (p : Program) : Type 
 end_sound : (writes : List (List ℕ)) (bytes : List ℕ) (p : Program) → end_of writes bytes ≡ Some p → Ended writes bytes p
 unfolding end_of
 end_sound writes bytes p e =
-    let a = bind_some (number_at true bytes) (λ n. after_tokens true (codes ";" ∷ codes "}" ∷ []) n.1 >>= λ l. cond (list_all is_blank l) (Some (record { writes = writes; status = n.0 })) None) p e in
-    let b = bind_some (after_tokens true (codes ";" ∷ codes "}" ∷ []) a.0.1) (λ l. cond (list_all is_blank l) (Some (record { writes = writes; status = a.0.0 })) None) p a.2 in
-    let g = guard_some (list_all is_blank b.0) (Some (record { writes = writes; status = a.0.0 })) p b.2 in
+    let a = bind_some (number_at true bytes) (λ n. after_tokens true (codes ";" ∷ codes "}" ∷ []) n.1 >>= λ l. cond (list_all is_gap_byte l) (Some (record { writes = writes; status = n.0 })) None) p e in
+    let b = bind_some (after_tokens true (codes ";" ∷ codes "}" ∷ []) a.0.1) (λ l. cond (list_all is_gap_byte l) (Some (record { writes = writes; status = a.0.0 })) None) p a.2 in
+    let g = guard_some (list_all is_gap_byte b.0) (Some (record { writes = writes; status = a.0.0 })) p b.2 in
     let w : writes ≡ p.writes = ap (λ (q : Program). q.writes) (some_same _ _ g.1) in
     let v : a.0.0 ≡ p.status = ap (λ (q : Program). q.status) (some_same _ _ g.1) in
     let n = number_sound true bytes a.0 a.1 in

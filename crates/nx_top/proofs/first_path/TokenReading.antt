@@ -4,7 +4,7 @@ use Rattle.std.specs.Cmp.{unsigned_Decides}
 use Rattle.std.specs.List.{list_all, starts_with}
 use Rattle.std.proofs.Math.Seq.{drop-append_seam}
 use Rattle.std.proofs.lemmas.Slice.Eq.{starts_is}
-use Rattle.nx_top.specs.first.Program.{is_blank, begins_word, ends_word, Spelled}
+use Rattle.nx_top.specs.first.Program.{is_gap_byte, begins_word, ends_word, Spelled}
 use Rattle.nx_top.specs.first.Program.Spelled.{Done, Next}
 use Rattle.nx_top.specs.first.ProgramReading.{begins_blank, after_blanks, after_gap, after_text, after_token, after_tokens}
 use Rattle.nx_top.proofs.first_path.Choices.{bind_some, guard_some, guard_none, both, not_true}
@@ -13,16 +13,16 @@ use Rattle.nx_top.proofs.first_path.Choices.{bind_some, guard_some, guard_none, 
 pub record Gap (wanted : Bool) (bytes rest : List ℕ) : Type 0 where
   pub blanks : List ℕ
   pub is : bytes ≡ blanks ++ rest
-  pub all : list_all is_blank blanks ≡ true
+  pub all : list_all is_gap_byte blanks ≡ true
   pub gap : wanted ≡ true → blanks ≢ []
 
 record Split (bytes : List ℕ) : Type 0 where
   blanks : List ℕ
   is : bytes ≡ blanks ++ after_blanks bytes
-  all : list_all is_blank blanks ≡ true
+  all : list_all is_gap_byte blanks ≡ true
   some : begins_blank bytes ≡ true → blanks ≢ []
 
-split_step : (b : ℕ) (bs : List ℕ) (t : Bool) → is_blank b ≡ t → Split bs → Split (b ∷ bs)
+split_step : (b : ℕ) (bs : List ℕ) (t : Bool) → is_gap_byte b ≡ t → Split bs → Split (b ∷ bs)
 split_step b bs true e s = record {
   blanks = b ∷ s.blanks;
   is = rw e (ap (λ l. b ∷ l) s.is);
@@ -33,7 +33,7 @@ split_step b bs false e s = record { blanks = []; is = rw e refl; all = refl; so
 
 split : (bytes : List ℕ) → Split bytes
 split [] = record { blanks = []; is = refl; all = refl; some = λ t n. cc }
-split (b ∷ bs) = split_step b bs (is_blank b) refl (split bs)
+split (b ∷ bs) = split_step b bs (is_gap_byte b) refl (split bs)
 
 wanted_blank : (w b : Bool) → (w && not b) ≡ false → w ≡ true → b ≡ true
 wanted_blank true true e t = refl
@@ -57,16 +57,16 @@ no_more : (t : List ℕ) → begins_blank t ≡ false → after_blanks t ≡ t
 no_more [] e = refl
 no_more (b ∷ bs) e = rw e refl
 
-passed : (blanks t : List ℕ) → list_all is_blank blanks ≡ true → begins_blank t ≡ false → after_blanks (blanks ++ t) ≡ t
+passed : (blanks t : List ℕ) → list_all is_gap_byte blanks ≡ true → begins_blank t ≡ false → after_blanks (blanks ++ t) ≡ t
 passed [] t all plain = no_more t plain
-passed (b ∷ bs) t all plain = let k = both (is_blank b) (list_all is_blank bs) all in rw (k.0) (passed bs t k.1 plain)
+passed (b ∷ bs) t all plain = let k = both (is_gap_byte b) (list_all is_gap_byte bs) all in rw (k.0) (passed bs t k.1 plain)
 
-wide : (wanted : Bool) (blanks t : List ℕ) → list_all is_blank blanks ≡ true → (wanted ≡ true → blanks ≢ []) → (wanted && not (begins_blank (blanks ++ t))) ≡ false
+wide : (wanted : Bool) (blanks t : List ℕ) → list_all is_gap_byte blanks ≡ true → (wanted ≡ true → blanks ≢ []) → (wanted && not (begins_blank (blanks ++ t))) ≡ false
 wide false blanks t all gap = refl
 wide true [] t all gap = absurd (gap refl refl)
-wide true (b ∷ bs) t all gap = let k = both (is_blank b) (list_all is_blank bs) all in rw (k.0) refl
+wide true (b ∷ bs) t all gap = let k = both (is_gap_byte b) (list_all is_gap_byte bs) all in rw (k.0) refl
 
-pub gap_whole : (wanted : Bool) (blanks t : List ℕ) → list_all is_blank blanks ≡ true → (wanted ≡ true → blanks ≢ []) → begins_blank t ≡ false → after_gap wanted (blanks ++ t) ≡ Some t
+pub gap_whole : (wanted : Bool) (blanks t : List ℕ) → list_all is_gap_byte blanks ≡ true → (wanted ≡ true → blanks ≢ []) → begins_blank t ≡ false → after_gap wanted (blanks ++ t) ≡ Some t
 unfolding after_gap
 gap_whole wanted blanks t all gap plain = rw (wide wanted blanks t all gap, passed blanks t all plain) refl
 
@@ -94,7 +94,7 @@ token_gap word token bytes rest e =
 pub with_token : (word : Bool) (token bytes rest : List ℕ) (tokens : List (List ℕ)) → Gap (word && begins_word token) bytes (token ++ rest) → Spelled (ends_word token) tokens rest → Spelled word (token ∷ tokens) bytes
 with_token word token bytes rest tokens g s = subst (Spelled word (token ∷ tokens)) (append_assoc g.blanks token rest ∙ sym g.is) (Next word g.blanks token rest tokens g.all g.gap s)
 
-pub token_whole : (word : Bool) (blanks token rest : List ℕ) → list_all is_blank blanks ≡ true → ((word && begins_word token) ≡ true → blanks ≢ []) → begins_blank (token ++ rest) ≡ false → after_token word token (blanks ++ (token ++ rest)) ≡ Some rest
+pub token_whole : (word : Bool) (blanks token rest : List ℕ) → list_all is_gap_byte blanks ≡ true → ((word && begins_word token) ≡ true → blanks ≢ []) → begins_blank (token ++ rest) ≡ false → after_token word token (blanks ++ (token ++ rest)) ≡ Some rest
 unfolding after_token
 token_whole word blanks token rest all gap plain = rw (gap_whole (word && begins_word token) blanks (token ++ rest) all gap plain) (text_whole token rest)
 
@@ -103,14 +103,14 @@ pub record Spelt (word : Bool) (token : List ℕ) (tokens : List (List ℕ)) (by
   pub blanks : List ℕ
   pub rest : List ℕ
   pub is : bytes ≡ blanks ++ (token ++ rest)
-  pub all : list_all is_blank blanks ≡ true
+  pub all : list_all is_gap_byte blanks ≡ true
   pub gap : (word && begins_word token) ≡ true → blanks ≢ []
   pub more : Spelled (ends_word token) tokens rest
 
 pub spelt : (word : Bool) (token : List ℕ) (tokens : List (List ℕ)) (bytes : List ℕ) → Spelled word (token ∷ tokens) bytes → Spelt word token tokens bytes
 spelt _ _ _ _ (Next word blanks token rest tokens all gap more) = record { blanks = blanks; rest = rest; is = append_assoc blanks token rest; all = all; gap = gap; more = more }
 
-pub all_blank : (word : Bool) (bytes : List ℕ) → Spelled word [] bytes → list_all is_blank bytes ≡ true
+pub all_blank : (word : Bool) (bytes : List ℕ) → Spelled word [] bytes → list_all is_gap_byte bytes ≡ true
 all_blank _ _ (Done word blanks all) = all
 
 -- whether a word stands right after tokens
@@ -121,11 +121,11 @@ word_after word (token ∷ tokens) = word_after (ends_word token) tokens
 -- a token that is not empty and has no blank before it
 abbrev pub is_plain_token : List ℕ → Bool
 is_plain_token [] = false
-is_plain_token (b ∷ bs) = not (is_blank b)
+is_plain_token (b ∷ bs) = not (is_gap_byte b)
 
 pub plain_front : (token rest : List ℕ) → is_plain_token token ≡ true → begins_blank (token ++ rest) ≡ false
 plain_front [] rest e = absurd (cc)
-plain_front (b ∷ bs) rest e = not_true (is_blank b) e
+plain_front (b ∷ bs) rest e = not_true (is_gap_byte b) e
 
 pub tokens_sound : (word : Bool) (tokens : List (List ℕ)) (bytes rest : List ℕ) (more : List (List ℕ)) → after_tokens word tokens bytes ≡ Some rest → Spelled (word_after word tokens) more rest → Spelled word (tokens ++ more) bytes
 unfolding after_tokens

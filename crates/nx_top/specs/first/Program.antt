@@ -29,8 +29,8 @@ tokens_of p =
     ∷ (flat_map write_tokens p.writes ++ codes "return" ∷ decimal p.status ∷ codes ";" ∷ codes "}" ∷ [])
 
 -- a space or a newline
-abbrev pub is_blank : ℕ → Bool
-is_blank b = (b == 32) || (b == 10)
+abbrev pub is_gap_byte : ℕ → Bool
+is_gap_byte b = (b == 32) || (b == 10)
 
 abbrev pub begins_word : List ℕ → Bool
 begins_word [] = false
@@ -45,8 +45,8 @@ ends_word (b ∷ c ∷ bs) = ends_word (c ∷ bs)
 -- the bytes are these tokens with blanks between, before and after them, of which there is one at
 -- least where two tokens would else be one; the test says whether a word stands right before
 pub data Spelled : Bool → List (List ℕ) → List ℕ → Type 0 where
-  Done : (word : Bool) (blanks : List ℕ) → list_all is_blank blanks ≡ true → Spelled word [] blanks
-  Next : (word : Bool) (blanks token rest : List ℕ) (tokens : List (List ℕ)) → list_all is_blank blanks ≡ true
+  Done : (word : Bool) (blanks : List ℕ) → list_all is_gap_byte blanks ≡ true → Spelled word [] blanks
+  Next : (word : Bool) (blanks token rest : List ℕ) (tokens : List (List ℕ)) → list_all is_gap_byte blanks ≡ true
       → ((word && begins_word token) ≡ true → blanks ≢ []) → Spelled (ends_word token) tokens rest
       → Spelled word (token ∷ tokens) (blanks ++ token ++ rest)
 

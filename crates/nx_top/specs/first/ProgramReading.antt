@@ -2,7 +2,7 @@
 use Rattle.std.specs.Prelude.{◌≡◌, ℕ, zero, suc, ◌+◌, ◌-◌, ◌*◌, Bool, true, false, ◌&&◌, ◌==◌, nat_eq, nat_le, List, [], ◌∷◌, ◌++◌, length, drop, if◌then◌else◌, codes, Option, Some, None, Result, Ok, Err}
 use Rattle.std.specs.Prelude.{not}
 use Rattle.std.specs.List.{list_all, starts_with}
-use Rattle.nx_top.specs.first.Program.{Program, is_blank, begins_word, ends_word}
+use Rattle.nx_top.specs.first.Program.{Program, is_gap_byte, begins_word, ends_word}
 use Rattle.nx_top.specs.declared.first.program.ReadStop.{ReadStop}
 use Rattle.nx_top.specs.declared.first.program.ReadStop.TheVariants as stop
 
@@ -22,12 +22,12 @@ AgreesWith view (Err e) read = Fails e read
 
 abbrev pub begins_blank : List ℕ → Bool
 begins_blank [] = false
-begins_blank (b ∷ bs) = is_blank b
+begins_blank (b ∷ bs) = is_gap_byte b
 
 -- the bytes after the blanks
 abbrev pub after_blanks : List ℕ → List ℕ
 after_blanks [] = []
-after_blanks (b ∷ bs) = if is_blank b then after_blanks bs else b ∷ bs
+after_blanks (b ∷ bs) = if is_gap_byte b then after_blanks bs else b ∷ bs
 
 -- the same, where a blank is wanted or not
 unfoldable pub after_gap : Bool → List ℕ → Option (List ℕ)
@@ -130,7 +130,7 @@ unfoldable pub end_of : List (List ℕ) → List ℕ → Option Program
 end_of writes bytes = do
   number ← number_at true bytes
   last ← after_tokens true (codes ";" ∷ codes "}" ∷ []) number.1
-  if list_all is_blank last then Some (record { writes = writes; status = number.0 }) else None
+  if list_all is_gap_byte last then Some (record { writes = writes; status = number.0 }) else None
 
 -- the end where return stands here, and something else where not
 abbrev pub end_or : Option (List ℕ) → List (List ℕ) → Option Program → Option Program

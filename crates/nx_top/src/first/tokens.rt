@@ -3,13 +3,13 @@
 ghost use Rattle.std.specs.Prelude.{◌≡◌, map};
 ghost use Rattle.std.specs.List.{list_all};
 ghost use Rattle.std.specs.Option.{option_map};
-ghost use Rattle.nx_top.specs.first.Program.{is_blank as is_blank_value, begins_word as begins_word_text, ends_word as ends_word_text};
+ghost use Rattle.nx_top.specs.first.Program.{is_gap_byte as is_gap_byte_value, begins_word as begins_word_text, ends_word as ends_word_text};
 ghost use Rattle.nx_top.specs.first.ProgramReading as read;
 
 use nx_base::is_word_byte;
 
-fn is_blank(byte: u8) -> bool
-    ensures { result ≡ is_blank_value byte }
+fn is_gap_byte(byte: u8) -> bool
+    ensures { result ≡ is_gap_byte_value byte }
 {
     byte == b' ' || byte == b'\n'
 }
@@ -19,7 +19,7 @@ fn after_blanks(bytes: &[u8]) -> &[u8]
 {
     let mut rest = bytes;
     while let [first, tail @ ..] = rest {
-        if !is_blank(*first) {
+        if !is_gap_byte(*first) {
             return rest;
         }
         rest = tail;
@@ -31,7 +31,7 @@ fn begins_blank(bytes: &[u8]) -> bool
     ensures { result ≡ read.begins_blank bytes.now }
 {
     match bytes {
-        [first, ..] => is_blank(*first),
+        [first, ..] => is_gap_byte(*first),
         _ => false,
     }
 }
@@ -153,7 +153,7 @@ pub fn number_at(bytes: &[u8], is_word: bool) -> Option<(u8, &[u8])>
 
 /// Whether all bytes are spaces and newlines.
 pub fn are_blanks(bytes: &[u8]) -> bool
-    ensures { result ≡ list_all is_blank_value bytes.now }
+    ensures { result ≡ list_all is_gap_byte_value bytes.now }
 {
-    bytes.iter().all(|byte| is_blank(*byte))
+    bytes.iter().all(|byte| is_gap_byte(*byte))
 }
