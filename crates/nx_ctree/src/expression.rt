@@ -1,6 +1,6 @@
 use crate::program::Base;
-use crate::shared::Shared;
 use nx_base::Bytes;
+use nx_shared::Shared;
 use sqlite_items::Items;
 
 /// An operator before its operand (C11 section 6.5.3), except steps, casts and `&`.

@@ -2,18 +2,12 @@
 //! Which tokens have which tree stands in `specs/Expressions.antt`, `Statements.antt` and `Programs.antt`.
 #![tactic(auto)]
 
-mod checked;
 mod expression;
 mod laws;
 mod program;
-mod shared;
 mod sign;
 mod statement;
 
-pub use checked::{
-    ArrayName, Cell, Checked, CheckedExpr, CheckedFunction, CheckedPlace, CheckedStmt, Conversion,
-    Element, GlobalArray, GlobalScalar, IntOperator, IntPrefix, Scalar, Shape, StepValue, UsedCall,
-};
 pub use expression::{
     AssignOperator, BinaryOperator, Expr, ExprKind, Place, PlaceKind, StepOperator, UnaryOperator,
 };
@@ -22,7 +16,6 @@ pub use program::{
     Base, Constant, ConstantKind, External, Function, Initialiser, Param, Params, Rest, TypeWord,
     Unit,
 };
-pub use shared::Shared;
 pub use sign::{Sign, Signed, with_sign};
 pub use statement::{Decl, Item, ItemKind, Stmt, StmtKind};
 

@@ -1,6 +1,6 @@
-use crate::shared::Shared;
 use crate::statement::{Decl, Stmt};
 use nx_base::Bytes;
+use nx_shared::Shared;
 use sqlite_items::Items;
 
 /// A type word of a file's declarations.

@@ -1,7 +1,7 @@
 use crate::expression::Expr;
 use crate::program::{Base, Constant};
-use crate::shared::Shared;
 use nx_base::Bytes;
+use nx_shared::Shared;
 use sqlite_items::Items;
 
 /// A statement (C11 section 6.8), with the line of its first token.

@@ -16,7 +16,7 @@ use Rattle.nx_ctree.specs.declared.expression.ExprKind.TheFolds.{fold-ExprKind, 
 use Rattle.nx_ctree.specs.declared.expression.Place.{Place}
 use Rattle.nx_ctree.specs.declared.expression.PlaceKind.{PlaceKind}
 use Rattle.nx_ctree.specs.declared.expression.PlaceKind.TheVariants as place
-use Rattle.nx_ctree.specs.declared.checked.StepValue.TheVariants as step
+use Rattle.nx_checked.specs.declared.checked.StepValue.TheVariants as step
 use Rattle.nx_ctype.specs.declared.names.Names.{Names}
 use Rattle.nx_ctype.specs.declared.types.Target.{Target}
 use Rattle.nx_ctype.specs.Rules.{paren_rule, unary_rule, binary_rule, conditional_rule, index_rule, address_rule, cast_rule, index_place, deref_place, assign_rule, step_rule}

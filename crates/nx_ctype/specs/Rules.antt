@@ -20,20 +20,20 @@ use Rattle.nx_ctree.specs.declared.expression.BinaryOperator.{BinaryOperator}
 use Rattle.nx_ctree.specs.declared.expression.BinaryOperator.TheVariants as binary
 use Rattle.nx_ctree.specs.declared.expression.AssignOperator.{AssignOperator}
 use Rattle.nx_ctree.specs.declared.expression.AssignOperator.TheVariants as assign
-use Rattle.nx_ctree.specs.declared.checked.Element.{Element}
-use Rattle.nx_ctree.specs.declared.checked.Element.TheVariants as element
-use Rattle.nx_ctree.specs.declared.checked.Scalar.{Scalar}
-use Rattle.nx_ctree.specs.declared.checked.Scalar.TheVariants as scalar
-use Rattle.nx_ctree.specs.declared.checked.Cell.{Cell}
-use Rattle.nx_ctree.specs.declared.checked.Conversion.TheVariants as convert
-use Rattle.nx_ctree.specs.declared.checked.IntPrefix.TheVariants as prefix
-use Rattle.nx_ctree.specs.declared.checked.IntOperator.{IntOperator}
-use Rattle.nx_ctree.specs.declared.checked.IntOperator.TheVariants as operator
-use Rattle.nx_ctree.specs.declared.checked.StepValue.{StepValue}
-use Rattle.nx_ctree.specs.declared.checked.CheckedExpr.{CheckedExpr}
-use Rattle.nx_ctree.specs.declared.checked.CheckedExpr.TheVariants as expr
-use Rattle.nx_ctree.specs.declared.checked.CheckedPlace.{CheckedPlace}
-use Rattle.nx_ctree.specs.declared.checked.CheckedPlace.TheVariants as place
+use Rattle.nx_checked.specs.declared.checked.Element.{Element}
+use Rattle.nx_checked.specs.declared.checked.Element.TheVariants as element
+use Rattle.nx_checked.specs.declared.checked.Scalar.{Scalar}
+use Rattle.nx_checked.specs.declared.checked.Scalar.TheVariants as scalar
+use Rattle.nx_checked.specs.declared.checked.Cell.{Cell}
+use Rattle.nx_checked.specs.declared.checked.Conversion.TheVariants as convert
+use Rattle.nx_checked.specs.declared.checked.IntPrefix.TheVariants as prefix
+use Rattle.nx_checked.specs.declared.checked.IntOperator.{IntOperator}
+use Rattle.nx_checked.specs.declared.checked.IntOperator.TheVariants as operator
+use Rattle.nx_checked.specs.declared.checked.StepValue.{StepValue}
+use Rattle.nx_checked.specs.declared.checked.CheckedExpr.{CheckedExpr}
+use Rattle.nx_checked.specs.declared.checked.CheckedExpr.TheVariants as expr
+use Rattle.nx_checked.specs.declared.checked.CheckedPlace.{CheckedPlace}
+use Rattle.nx_checked.specs.declared.checked.CheckedPlace.TheVariants as place
 use Rattle.nx_ctype.specs.declared.types.CType.{CType}
 use Rattle.nx_ctype.specs.declared.types.CType.TheVariants as type
 use Rattle.nx_ctype.specs.declared.types.Held.{Held}

@@ -5,12 +5,12 @@ use Rattle.std.specs.Option.{option_or}
 use Rattle.std.specs.Str.{bytes_eq}
 use Rattle.nx_ctok.specs.declared.fault.CKind.{CKind}
 use Rattle.nx_ctok.specs.declared.fault.CKind.TheVariants as fault
-use Rattle.nx_ctree.specs.declared.checked.Element.{Element}
-use Rattle.nx_ctree.specs.declared.checked.Element.TheVariants as element
-use Rattle.nx_ctree.specs.declared.checked.Scalar.{Scalar}
-use Rattle.nx_ctree.specs.declared.checked.Scalar.TheVariants as scalar
-use Rattle.nx_ctree.specs.declared.checked.CheckedExpr.TheVariants as expr
-use Rattle.nx_ctree.specs.Frames.{bytes_of}
+use Rattle.nx_checked.specs.declared.checked.Element.{Element}
+use Rattle.nx_checked.specs.declared.checked.Element.TheVariants as element
+use Rattle.nx_checked.specs.declared.checked.Scalar.{Scalar}
+use Rattle.nx_checked.specs.declared.checked.Scalar.TheVariants as scalar
+use Rattle.nx_checked.specs.declared.checked.CheckedExpr.TheVariants as expr
+use Rattle.nx_checked.specs.Frames.{bytes_of}
 use Rattle.nx_ctype.specs.declared.types.CType.{CType}
 use Rattle.nx_ctype.specs.declared.types.CType.TheVariants as type
 use Rattle.nx_ctype.specs.declared.types.Held.{Held}

@@ -13,9 +13,9 @@ use Rattle.nx_ctree.specs.declared.program.Base.TheVariants as base
 use Rattle.nx_ctree.specs.declared.expression.Expr.{Expr, fold-Expr}
 use Rattle.nx_ctree.specs.declared.expression.Place.{Place, fold-Place}
 use Rattle.nx_ctree.specs.declared.expression.ExprKind.TheOpen as form
-use Rattle.nx_ctree.specs.declared.checked.Element.TheVariants as element
-use Rattle.nx_ctree.specs.declared.checked.StepValue.TheVariants as step
-use Rattle.nx_ctree.specs.declared.checked.CheckedExpr.TheVariants as expr
+use Rattle.nx_checked.specs.declared.checked.Element.TheVariants as element
+use Rattle.nx_checked.specs.declared.checked.StepValue.TheVariants as step
+use Rattle.nx_checked.specs.declared.checked.CheckedExpr.TheVariants as expr
 use Rattle.nx_ctype.specs.declared.types.CType.TheVariants as type
 use Rattle.nx_ctype.specs.declared.types.Function.{Function}
 use Rattle.nx_ctype.specs.declared.types.Typed.{Typed}

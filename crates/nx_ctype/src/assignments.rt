@@ -13,11 +13,10 @@ ghost use Rattle.nx_ctype.specs.Rules.{
 
 use crate::rules::{mismatch, takes};
 use crate::types::{CType, Held, Target, Typed};
+use nx_checked::{Cell, CheckedExpr, CheckedPlace, Element, IntOperator, Scalar, StepValue};
 use nx_ctok::CFault;
-use nx_ctree::{
-    AssignOperator, Cell, CheckedExpr, CheckedPlace, Element, IntOperator, Scalar, Shared,
-    StepOperator, StepValue,
-};
+use nx_ctree::{AssignOperator, StepOperator};
+use nx_shared::Shared;
 use std::alloc::Global;
 
 fn compound_of(op: AssignOperator) -> Option<IntOperator>

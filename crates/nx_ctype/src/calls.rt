@@ -21,8 +21,8 @@ use crate::rules::{mismatch, takes};
 use crate::types::{CType, Function, Held, Typed};
 use nx_base::{KCall, Kind};
 use nx_calls::CallRow;
+use nx_checked::{CheckedExpr, Element};
 use nx_ctok::CFault;
-use nx_ctree::{CheckedExpr, Element};
 use sqlite_items::Items;
 use std::alloc::{AllocError, Global};
 

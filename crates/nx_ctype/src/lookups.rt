@@ -1,5 +1,5 @@
 ghost use Rattle.std.specs.Prelude.{◌≡◌, ◌%◌, ◌^◌};
-ghost use Rattle.nx_ctree.specs.Frames.{size_of as size_of_element, bytes_of};
+ghost use Rattle.nx_checked.specs.Frames.{size_of as size_of_element, bytes_of};
 ghost use Rattle.nx_ctype.specs.Types.{
   variable_of,
   missing as missing_name,
@@ -15,8 +15,8 @@ ghost use Rattle.nx_ctype.specs.Rules.{entry_rule, entry_function as entry_of_fu
 
 use crate::names::Names;
 use crate::types::{CType, Function, Held, Target, Typed, Variable};
+use nx_checked::{CheckedExpr, Element, Scalar, Shape};
 use nx_ctok::{CFault, CKind};
-use nx_ctree::{CheckedExpr, Element, Scalar, Shape};
 
 impl Names {
     /// The variable that a name stands for.

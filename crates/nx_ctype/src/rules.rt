@@ -23,11 +23,10 @@ ghost use Rattle.nx_ctype.specs.Rules.{
 };
 
 use crate::types::{CType, Target, Typed};
+use nx_checked::{CheckedExpr, CheckedPlace, Conversion, Element, IntOperator, IntPrefix};
 use nx_ctok::{CFault, CKind};
-use nx_ctree::{
-    Base, BinaryOperator, CheckedExpr, CheckedPlace, Conversion, Element, IntOperator, IntPrefix,
-    Shared, UnaryOperator,
-};
+use nx_ctree::{Base, BinaryOperator, UnaryOperator};
+use nx_shared::Shared;
 use std::alloc::{AllocError, Global};
 
 /// The fault of an operator that doesn't take its operands.

@@ -1,4 +1,4 @@
-use nx_ctree::{ArrayName, Cell, CheckedExpr, CheckedPlace, Element, Scalar, Shape};
+use nx_checked::{ArrayName, Cell, CheckedExpr, CheckedPlace, Element, Scalar, Shape};
 use sqlite_items::Items;
 
 /// The type of an expression.

@@ -1,14 +1,14 @@
 -- How many bytes of stack a call of a function takes: 16, 4 for each parameter, for each local and for each value that
 -- waits while an expression goes on, and the bytes of its arrays. The sum is a multiple of 16.
 use Rattle.std.specs.Prelude.{ℕ, ◌+◌, ◌*◌, ◌/◌, max, List, [], ◌∷◌, Option, None, Some, length}
-use Rattle.nx_ctree.specs.declared.checked.Element.{Element}
-use Rattle.nx_ctree.specs.declared.checked.Element.TheVariants as element
-use Rattle.nx_ctree.specs.declared.checked.Shape.{Shape}
-use Rattle.nx_ctree.specs.declared.checked.CheckedExpr.{CheckedExpr, fold-CheckedExpr}
-use Rattle.nx_ctree.specs.declared.checked.CheckedExpr.TheOpen as expr
-use Rattle.nx_ctree.specs.declared.checked.CheckedStmt.{CheckedStmt, fold-CheckedStmt}
-use Rattle.nx_ctree.specs.declared.checked.CheckedStmt.TheOpen as stmt
-use Rattle.nx_ctree.specs.declared.checked.CheckedFunction.{CheckedFunction}
+use Rattle.nx_checked.specs.declared.checked.Element.{Element}
+use Rattle.nx_checked.specs.declared.checked.Element.TheVariants as element
+use Rattle.nx_checked.specs.declared.checked.Shape.{Shape}
+use Rattle.nx_checked.specs.declared.checked.CheckedExpr.{CheckedExpr, fold-CheckedExpr}
+use Rattle.nx_checked.specs.declared.checked.CheckedExpr.TheOpen as expr
+use Rattle.nx_checked.specs.declared.checked.CheckedStmt.{CheckedStmt, fold-CheckedStmt}
+use Rattle.nx_checked.specs.declared.checked.CheckedStmt.TheOpen as stmt
+use Rattle.nx_checked.specs.declared.checked.CheckedFunction.{CheckedFunction}
 
 -- The bytes of an element.
 abbrev pub size_of : Element → ℕ

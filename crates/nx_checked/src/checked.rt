@@ -1,5 +1,5 @@
-use crate::shared::Shared;
 use nx_base::{Bytes, Kind};
+use nx_shared::Shared;
 use sqlite_items::Items;
 
 /// What an array or a text holds, and what a pointer points to.

@@ -1,0 +1,6 @@
+//! A part of a tree with several owners.
+#![tactic(auto)]
+
+mod shared;
+
+pub use shared::Shared;
