@@ -5,3 +5,12 @@ pub mod Spared
 pub mod Growth
 pub mod Forms
 pub mod Levels
+pub mod CompleteStarts
+pub mod CompletePicks
+pub mod CompleteClaims
+pub mod CompletePrimary
+pub mod CompleteIndexes
+pub mod CompletePlaces
+pub mod CompleteUnary
+pub mod CompleteLevels
+pub mod Complete
