@@ -14,3 +14,4 @@ pub mod CompletePlaces
 pub mod CompleteUnary
 pub mod CompleteLevels
 pub mod Complete
+pub mod CompleteReads

@@ -10,7 +10,10 @@ mod tokens;
 mod types;
 
 pub use operand::Tall;
-pub use reading::{an_expression_that_is_read_was_there, an_expression_that_was_there_is_read};
+pub use reading::{
+    Expressions, a_refused_expression_goes_wrong_there, an_expression_has_one_tree,
+    an_expression_that_is_read_was_there, an_expression_that_was_there_is_read,
+};
 pub use stop::ParseStop;
 pub use tokens::{Rest, expect};
 pub use types::{base, star};
