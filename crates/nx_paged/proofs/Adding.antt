@@ -286,9 +286,11 @@ page_added s regions added ram used page table frame writes b small e h named = 
       few = omega (arith, h);
       count = let c = b.count in omega (arith, c);
       tables = b.tables;
-      pages = λ v. ⊎_elim
-          (λ q. ap (λ x. right_of (if x then Some p else b.maps.pages v)) (same_number v (1024 * i + j) (q ∙ sym page_is)) ∙ sym (seen_here v (v == page) (same_number v page q)))
-          (λ ne. ap (λ x. right_of (if x then Some p else b.maps.pages v)) (other_number v (1024 * i + j) (λ q. ne (q ∙ page_is))) ∙ b.pages v ∙ sym (seen_there v (v == page) (other_number v page ne)))
+      pages = λ v some. ⊎_elim
+          (λ q. ap (λ x. right_of (if x then Some p else b.maps.pages v)) (same_number v (1024 * i + j) (q ∙ sym page_is)) ∙ sym (seen_added_here v (same_number v page q)))
+          (λ ne.
+          let same = seen_added v (other_number v page ne) in
+          ap (λ x. right_of (if x then Some p else b.maps.pages v)) (other_number v (1024 * i + j) (λ q. ne (q ∙ page_is))) ∙ b.pages v (ap is_some (sym same) ∙ some) ∙ sym same)
           (cases_eq v page);
       zeroed = λ v q some z. ⊎_elim
           (λ here.
@@ -307,12 +309,6 @@ page_added s regions added ram used page table frame writes b small e h named = 
       where
         some_none : Some writes ≡ None → ⊥
         some_none z = cc
-
-        seen_here : (v : ℕ) (t : Bool) → t ≡ true → (if t then Some writes else look (added ++ s.initial) v) ≡ Some writes
-        seen_here v t q = ap (λ x. if x then Some writes else look (added ++ s.initial) v) q
-
-        seen_there : (v : ℕ) (t : Bool) → t ≡ false → (if t then Some writes else look (added ++ s.initial) v) ≡ look (added ++ s.initial) v
-        seen_there v t q = ap (λ x. if x then Some writes else look (added ++ s.initial) v) q
 
         seen_added : (v : ℕ) → (v == page) ≡ false → (if v == page then Some writes else look added v) ≡ look added v
         seen_added v q = ap (λ x. if x then Some writes else look added v) q

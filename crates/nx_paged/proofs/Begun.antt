@@ -10,7 +10,7 @@ use Rattle.nx_frames.specs.declared.frames.Taken.{Taken}
 use Rattle.nx_frames.specs.Chains as chains
 use Rattle.nx_frames.specs.Chains.{IsFrame}
 use Rattle.nx_frames.specs.Zeros.{IsElsewhere}
-use Rattle.nx_frames.specs.Stock.{Stock, SameFrames, Takes, AreHeld, frames_of}
+use Rattle.nx_frames.specs.Stock.{Stock, Holds, Keeps, SameFrames, Takes, AreHeld, frames_of}
 use Rattle.nx_frames.proofs.Chains.{length-chain}
 use Rattle.nx_sv32.specs.Walk.{ram_start}
 use Rattle.nx_tables.specs.Maps.{Maps}
@@ -52,7 +52,7 @@ frames_long : (s : Paging) (stock : Stock) (taken_ram ram : List ℕ) (number pl
 frames_long s stock taken_ram ram number place slot root t h = length-chain stock.first stock.next t.head t.count ∙ h.takes.count
 
 -- the frames that are taken, as those of the tables
-own_frames : (first count : ℕ) (ram : List ℕ) (l : List ℕ) → first + 4096 * count ≤ ram_start + length ram → chains.Each (IsFrame first count) l → chains.Each (λ a. (k : ℕ) → k < 4096 → slice_index ram (a - ram_start + k) ≡ 0) l → Each (IsFresh ram) l
+pub own_frames : (first count : ℕ) (ram : List ℕ) (l : List ℕ) → first + 4096 * count ≤ ram_start + length ram → chains.Each (IsFrame first count) l → chains.Each (λ a. (k : ℕ) → k < 4096 → slice_index ram (a - ram_start + k) ≡ 0) l → Each (IsFresh ram) l
 own_frames first count ram [] inside h z = tt
 own_frames first count ram (a ∷ l) inside h z =
     let n = h.0.1 in
@@ -92,7 +92,7 @@ can_start s stock taken_ram ram number place slot root t h p =
     }
 
 -- a frame that a group had is none of those that are taken
-apart_from : (roles : ℕ → Role) (h f : ℕ) (l : List ℕ) → is_of h (roles f) ≡ true → Each (FrameAt (λ r. r ≡ Free) roles) l → Each (λ a. a ≢ ram_start + 4096 * f) l
+pub apart_from : (roles : ℕ → Role) (h f : ℕ) (l : List ℕ) → is_of h (roles f) ≡ true → Each (FrameAt (λ r. r ≡ Free) roles) l → Each (λ a. a ≢ ram_start + 4096 * f) l
 apart_from roles h f [] own free = tt
 apart_from roles h f (a ∷ l) own free =
     let at = free.0.address in
@@ -115,7 +115,7 @@ pub record Untouched (s : Paging) (stock : Stock) (ram : List ℕ) (number : ℕ
   pub roles_same : (h : ℕ) → SameRoles h role roles
   pub long : length ram ≡ length s.ram
 
-not_other : (g h : ℕ) (r : Role) → h ≢ g → is_of h r ≡ true → is_of g r ≡ false
+pub not_other : (g h : ℕ) (r : Role) → h ≢ g → is_of h r ≡ true → is_of g r ≡ false
 not_other g h r ne own = by_test (is_of g r) refl
   where
     by_test : (b : Bool) → is_of g r ≡ b → b ≡ false
@@ -165,10 +165,10 @@ still_groups s stock ram number role roles (t ∷ ts) u live none = by_test (t.n
     by_test true e q more = absurd cc
     by_test false e q more = ap (λ g. g ∷ map (paged_group ram (paged_plan s)) ts) (one (differs e)) ∙ ap (λ gs. paged_group s.ram (paged_plan s) t ∷ gs) (more q)
 
-pub still_lives : (s : Paging) (stock : Stock) (taken_ram ram : List ℕ) (n number : ℕ) (role roles : ℕ → Role) (taken : Taken) (ts : List Tenant) → Untouched s stock ram number role roles → Takes s.stock stock s.ram taken_ram n taken → Each (IsLive s.ram s.stock (paged_plan s) role) ts → has_tenant ts number ≡ false → AreHeld s.stock (holdings ts) → Each (IsLive ram stock (paged_plan s) roles) ts
+pub still_lives : (s : Paging) (stock : Stock) (ram : List ℕ) (number : ℕ) (role roles : ℕ → Role) (ts : List Tenant) → Untouched s stock ram number role roles → ((u : Taken) → Holds s.stock u → Keeps s.stock stock u) → Each (IsLive s.ram s.stock (paged_plan s) role) ts → has_tenant ts number ≡ false → AreHeld s.stock (holdings ts) → Each (IsLive ram stock (paged_plan s) roles) ts
 unfolding has_tenant
-still_lives s stock taken_ram ram n number role roles taken [] u k live none held = tt
-still_lives s stock taken_ram ram n number role roles taken (t ∷ ts) u k live none held = by_test (t.number == number) refl none (λ q. still_lives s stock taken_ram ram n number role roles taken ts u k live.1 q held.2)
+still_lives s stock ram number role roles [] u k live none held = tt
+still_lives s stock ram number role roles (t ∷ ts) u k live none held = by_test (t.number == number) refl none (λ q. still_lives s stock ram number role roles ts u k live.1 q held.2)
   where
     differs : (t.number == number) ≡ false → t.number ≢ number
     differs e q = apart (sym e ∙ same_number t.number number q)
@@ -183,11 +183,12 @@ still_lives s stock taken_ram ram n number role roles taken (t ∷ ts) u k live 
     one : t.number ≢ number → IsLive ram stock (paged_plan s) roles t
     one ne =
         let v = live.0 in
-        let kept = (k.others t.taken held.0).0 in
+        let kept = k t.taken held.0 in
         record {
           maps = v.maps;
           root = v.root;
           stands = stands_kept s.ram ram role roles t.number v.maps v.stands (λ f i own small. u.bytes t.number f i ne (table_is_of t.number (role f) own) small) (u.roles_same t.number) u.long;
+          tables = v.tables;
           shows = v.shows;
           frames = subst (Each (FrameAt (λ r. is_of t.number r ≡ true) roles)) (sym kept.frames) (frames_still (frames_of s.stock t.taken) v.frames);
           count = v.count;

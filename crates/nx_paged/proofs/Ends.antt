@@ -180,6 +180,7 @@ still_live ram old new memory_map role g t (u ∷ us) live ne held apart keeps =
         maps = k.maps;
         root = k.root;
         stands = end_frees ram role g u.number k.maps ne.0 k.stands;
+        tables = k.tables;
         shows = k.shows;
         frames = subst (λ l. Each (FrameAt (λ r. is_of u.number r ≡ true) (freed role g)) l) (sym kept.frames) (frames_still (frames_of old u.taken) same k.frames);
         count = k.count;

@@ -34,7 +34,7 @@ once_prop : (xs : List ℕ) → IsProp (AreOnce xs)
 once_prop [] u v = refl
 once_prop (x ∷ xs) u v = ap (λ z. (z, u.1)) (each_prop (λ y. y ≢ x) (λ y. differ_prop x y) xs u.0 v.0) ∙ ap (λ z. (v.0, z)) (once_prop xs u.1 v.1)
 
-apart_prop : (xs ys : List ℕ) → IsProp (AreApart xs ys)
+pub apart_prop : (xs ys : List ℕ) → IsProp (AreApart xs ys)
 apart_prop xs ys = each_prop (λ x. Each (λ y. y ≢ x) ys) (λ x. each_prop (λ y. y ≢ x) (λ y. differ_prop x y) ys) xs
 
 last_prop : (s : Stock) (t : Taken) → IsProp (1 ≤ t.count → t.tail ≡ frame_after s.next t.head (t.count - 1))

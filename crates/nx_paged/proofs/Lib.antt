@@ -21,4 +21,12 @@ pub mod Newcomers
 pub mod Started
 pub mod Shares
 pub mod Ends
+pub mod Splits
+pub mod Slots
+pub mod GrownNeeds
+pub mod Growths
+pub mod GrownWindows
+pub mod Grown
+pub mod Cleared
+pub mod Grows
 pub mod Fresh

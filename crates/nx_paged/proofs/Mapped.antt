@@ -1,5 +1,6 @@
 -- A program's windows are mapped, and show its bytes and zeros.
-use Rattle.std.proofs.Common.{◌≡◌, ◌≢◌, ℕ, ◌+◌, ◌*◌, ◌/◌, ◌%◌, ◌<◌, ◌≤◌, ◌⊎◌, Bool, true, false, Some, None, List, [], ◌∷◌, ◌++◌, length, refl, sym, ap, ◌∙◌, subst, arith, ⊎_elim, inl, inr}
+use Rattle.std.proofs.Common.{◌≡◌, ◌≢◌, ℕ, ◌+◌, ◌*◌, ◌/◌, ◌%◌, ◌<◌, ◌≤◌, ◌⊎◌, ◌==◌, Bool, true, false, Some, None, List, [], ◌∷◌, ◌++◌, length, refl, sym, ap, ◌∙◌, subst, arith, ⊎_elim, inl, inr}
+use Rattle.std.specs.List.{list_any}
 use Rattle.std.specs.Option.{is_some}
 use Rattle.std.proofs.lemmas.List.{append-nil, take_all}
 use Rattle.nx_base.specs.ByteLists.{put_bytes}
@@ -13,11 +14,11 @@ use Rattle.nx_tables.proofs.Views.{length-seen, get-seen, byte_mapped, seen_by_f
 use Rattle.nx_space.specs.Starts.{pages_of, paged}
 use Rattle.nx_paged.specs.Spans.{Span, Each, span_of, covers, first_span}
 use Rattle.nx_paged.specs.Paging.{FrameAt}
-use Rattle.nx_paged.specs.Building.{Entry, look, right_of, Site, Building}
+use Rattle.nx_paged.specs.Building.{Entry, look, regions_of, Site, Building}
 use Rattle.nx_paged.specs.Writing.{IsPlace, Writes, WritesAll}
 use Rattle.nx_paged.specs.Starting.{program_spans, IsMappedIn}
-use Rattle.nx_paged.proofs.Looks.{look_in, look_out, right_page, no_right, each_span, each_spans, none_covers, not_covered, span_clear, each_front, each_back}
-use Rattle.nx_paged.proofs.Roots.{site_of, Sized, all_of, all_regions, data_of, stack_of, length-all, enough_is}
+use Rattle.nx_paged.proofs.Looks.{look_in, look_out, right_page, each_span, each_spans, none_covers, not_covered, span_clear, each_front, each_back}
+use Rattle.nx_paged.proofs.Roots.{site_of, Sized, all_of, all_regions, data_of, stack_of, length-all, all_is, regions_are, enough_is}
 use Rattle.nx_paged.proofs.Zeros.{zeros, put-zeros, are_zeros}
 
 -- where the windows lie, in pages
@@ -84,18 +85,15 @@ no_look p low nt nd ns v t d s =
 
 -- a window whose pages were all added
 pub record Added (s : Site) (added : List Entry) (at n : ℕ) (writes : Bool) : Type 0 where
-  pub none : s.initial ≡ []
   pub start : at % 4096 ≡ 0
   pub top : at / 4096 + n ≤ 1048576
   pub looks : (v : ℕ) → at / 4096 ≤ v → v < at / 4096 + n → look added v ≡ Some writes
 
-right_at : (s : Site) (regions : List ℕ) (added : List Entry) (ram : List ℕ) (used v : ℕ) (b : Building s regions added ram used) → s.initial ≡ [] → right_of (b.maps.pages v) ≡ look added v
-right_at s regions added ram used v b none = b.pages v ∙ ap (λ l. look (added ++ l) v) none ∙ ap (λ l. look l v) (append-nil added)
-
 pub window_mapped : (s : Site) (regions : List ℕ) (added : List Entry) (ram : List ℕ) (used at n : ℕ) (writes : Bool) (b : Building s regions added ram used) → Added s added at n writes → IsMapped b.maps at (4096 * n) writes
 window_mapped s regions added ram used at n writes b w a low high =
     let start = w.start in
-    right_page b.maps a writes (right_at s regions added ram used (a / 4096) b w.none ∙ w.looks (a / 4096) (omega (arith, low)) (omega (arith, start, high)))
+    let look_is = w.looks (a / 4096) (omega (arith, low)) (omega (arith, start, high)) in
+    right_page b.maps a writes (b.pages (a / 4096) (ap is_some look_is) ∙ look_is)
 
 pub window_zeros : (s : Site) (regions : List ℕ) (added : List Entry) (ram : List ℕ) (used at n : ℕ) (writes : Bool) (b : Building s regions added ram used) → Added s added at n writes → seen ram (satp_of b.maps.root) at (4096 * n) ≡ zeros (4096 * n)
 window_zeros s regions added ram used at n writes b w = are_zeros (seen ram (satp_of b.maps.root) at (4096 * n)) (4096 * n) (length-seen ram (satp_of b.maps.root) at (4096 * n)) (λ k l.
@@ -132,16 +130,16 @@ text_added : (old frames : List ℕ) (root : ℕ) (p : ProgImage) (low : ℕ) (b
 text_added old frames root p low before g nt nd ns r =
     let a = r.text_at in
     let b = r.text in
-    record { none = refl; start = omega (arith, a); top = omega (arith, a, b); looks = λ v l u. text_look p low nt nd ns v l u }
+    record { start = omega (arith, a); top = omega (arith, a, b); looks = λ v l u. text_look p low nt nd ns v l u }
 
 data_added : (old frames : List ℕ) (root : ℕ) (p : ProgImage) (low : ℕ) (before : ℕ → Role) (g nt nd ns : ℕ) → Ranges p low nt nd ns → Added (site_of old frames root before g) (all_of p low nt nd ns) p.data_at nd true
 data_added old frames root p low before g nt nd ns r =
     let a = r.data_at in
     let b = r.contents in
-    record { none = refl; start = omega (arith, a); top = omega (arith, a, b); looks = λ v l u. data_look p low nt nd ns v r l u }
+    record { start = omega (arith, a); top = omega (arith, a, b); looks = λ v l u. data_look p low nt nd ns v r l u }
 
 stack_added : (old frames : List ℕ) (root : ℕ) (p : ProgImage) (low : ℕ) (before : ℕ → Role) (g nt nd ns : ℕ) → Ranges p low nt nd ns → Added (site_of old frames root before g) (all_of p low nt nd ns) low ns true
-stack_added old frames root p low before g nt nd ns r = record { none = refl; start = r.whole; top = r.top; looks = λ v l u. stack_look p low nt nd ns v r l u }
+stack_added old frames root p low before g nt nd ns r = record { start = r.whole; top = r.top; looks = λ v l u. stack_look p low nt nd ns v r l u }
 
 abbrev pub Built : List ℕ → List ℕ → ℕ → ProgImage → ℕ → (ℕ → Role) → ℕ → ℕ → ℕ → ℕ → List ℕ → ℕ → Type 0
 Built old frames root p low before g nt nd ns ram used = Building (site_of old frames root before g) (all_regions p low nt nd ns) (all_of p low nt nd ns) ram used
@@ -156,7 +154,7 @@ data_place old frames root p low stack before g nt nd ns ram new used z b s =
     let w = window_place (site_of old frames root before g) (all_regions p low nt nd ns) (all_of p low nt nd ns) ram used p.data_at nd true b (data_added old frames root p low before g nt nd ns (ranges old frames root p low stack before nt nd ns z)) in
     record { stands = s; satp_is = w.satp_is; mapped = w.mapped; start = w.start; top = w.top }
 
-not_table : (g : ℕ) (r : Role) → is_of g r ≡ false → is_table g r ≡ false
+pub not_table : (g : ℕ) (r : Role) → is_of g r ≡ false → is_table g r ≡ false
 not_table g Free h = refl
 not_table g (Root k) h = h
 not_table g (Table k i) h = h
@@ -174,6 +172,7 @@ program_mapped old frames root p low stack before g nt nd ns ram mid new used z 
       (each_span P p.data_at true p.init (subst (λ n. IsMapped b.maps p.data_at (4096 * n) true) z.contents dm))
       (subst (λ n. IsMapped b.maps low (4096 * n) true) z.zeros sm, tt));
   others = others;
+  tables = λ i l. b.tables i l ∙ ap (list_any (λ m. m == i)) (sym (regions_are p low nt nd ns) ∙ ap regions_of (sym (all_is p low stack nt nd ns z.text z.contents z.zeros)));
   taken = subst (Each (FrameAt (λ r. is_of g r ≡ true) b.roles)) (take_all used frames full) b.taken;
   elsewhere = λ f out. b.elsewhere f (subst (Each (λ a. a ≢ ram_start + 4096 * f)) (sym (take_all used frames full)) out);
   kept = λ f k none small.
@@ -229,7 +228,7 @@ program_mapped old frames root p low stack before g nt nd ns ram mid new used z 
     full =
         let e = enough_is old frames root p low stack before nt nd ns z in
         let c = b.count in
-        let l = ap length (append-nil all) ∙ length-all p low nt nd ns in
+        let l = length-all p low nt nd ns in
         omega (arith, e, c, l)
 
     apart : true ≡ false → ⊥
@@ -288,7 +287,7 @@ program_mapped old frames root p low stack before g nt nd ns ram mid new used z 
         let nt_is = z.text in
         let nd_is = z.contents in
         let ns_is = z.zeros in
-        no_right (b.maps.pages (at / 4096)) (right_at site regions all ram used (at / 4096) b refl ∙ no_look p low nt nd ns (at / 4096)
+        b.others (at / 4096) (no_look p low nt nd ns (at / 4096)
         (⊎_elim (λ l. inl (omega (arith, a, l))) (λ l. inr (omega (arith, a, l, nt_is))) t)
         (⊎_elim (λ l. inl (omega (arith, c, l))) (λ l. inr (omega (arith, c, l, nd_is))) d)
         (⊎_elim (λ l. inl (omega (arith, w, l))) (λ l. inr (omega (arith, w, l, ns_is))) s))

@@ -1,6 +1,6 @@
 -- The space and its world after a start.
-use Rattle.std.proofs.Common.{◌≡◌, ◌≢◌, ℕ, zero, suc, ◌+◌, ◌-◌, ◌*◌, ◌/◌, ◌%◌, ◌<◌, ◌≤◌, Bool, true, false, not, List, [], ◌∷◌, ◌++◌, length, map, take, get_or, refl, sym, ap, ◌∙◌, subst, arith, ⊎_elim}
-use Rattle.std.specs.List.{All}
+use Rattle.std.proofs.Common.{◌≡◌, ◌≢◌, ℕ, zero, suc, ◌+◌, ◌-◌, ◌*◌, ◌/◌, ◌%◌, ◌<◌, ◌≤◌, ◌==◌, Bool, true, false, not, List, [], ◌∷◌, ◌++◌, length, map, take, get_or, refl, sym, ap, ◌∙◌, subst, arith, ⊎_elim}
+use Rattle.std.specs.List.{All, list_any}
 use Rattle.std.proofs.lemmas.List.{length-append, append-nil}
 use Rattle.nx_frames.specs.declared.frames.Taken.{Taken}
 use Rattle.nx_frames.specs.Chains as chains
@@ -20,6 +20,7 @@ use Rattle.nx_paged.specs.Layout.{laid_out, group_laid_out}
 use Rattle.nx_paged.specs.Starting.{IsMappedIn}
 use Rattle.nx_paged.proofs.FrameLists.{each_right}
 use Rattle.nx_paged.proofs.Shown.{take_same}
+use Rattle.nx_paged.proofs.Needs.{started_regions}
 use Rattle.nx_paged.proofs.Zeros.{zeros, length-zeros}
 use Rattle.nx_paged.proofs.Ends.{holdings, same_plan}
 use Rattle.nx_paged.proofs.Begun.{Starts, program_in, low_of, can_start, elsewhere_of, untouched, still_groups, still_lives, newcomer, with_newcomer, each_last, map_last, still_nobody, one_or_none}
@@ -28,7 +29,7 @@ one_slot : (n slot : ℕ) → slot < n → All (λ x. x < n) (slot ∷ [])
 one_slot n slot h zero d l = h
 one_slot n slot h (suc k) d l = absurd (omega (arith, l))
 
-high_frames : (first count low : ℕ) (l : List ℕ) → low ≤ first → chains.Each (IsFrame first count) l → chains.Each (λ a. low ≤ a) l
+pub high_frames : (first count low : ℕ) (l : List ℕ) → low ≤ first → chains.Each (IsFrame first count) l → chains.Each (λ a. low ≤ a) l
 high_frames first count low [] h f = tt
 high_frames first count low (a ∷ l) h f = let at = f.0.2 in (omega (arith, at, h), high_frames first count low l h f.1)
 
@@ -43,11 +44,12 @@ begun_paged s stock taken_ram ram number place slot root t h p m =
       maps = m.maps;
       root = m.maps_root;
       stands = m.stands;
+      tables = λ i l. m.tables i l ∙ ap (list_any (λ x. x == i)) (sym (started_regions (paged_plan s) place slot));
       shows = record { fine = laid.fine; apart = laid.apart; mapped = m.mapped; others = m.others };
       frames = m.taken;
       count = h.takes.count;
     } in
-    let lives = still_lives s stock taken_ram ram (frames_for (paged_plan s) place (slot ∷ [])) number p.role m.roles t s.tenants u h.takes p.live h.fresh_number p.held in
+    let lives = still_lives s stock ram number p.role m.roles s.tenants u (λ x holds. (h.takes.others x holds).0) p.live h.fresh_number p.held in
     let held = taken_held s.stock stock s.ram taken_ram (frames_for (paged_plan s) place (slot ∷ [])) t (holdings s.tenants) h.takes p.held in
     record {
       role = m.roles;

@@ -1,5 +1,5 @@
 -- How many regions pages have.
-use Rattle.std.proofs.Common.{◌≡◌, ◌≢◌, ℕ, zero, suc, ◌+◌, ◌-◌, ◌*◌, ◌/◌, ◌<◌, ◌≤◌, ◌==◌, Bool, true, false, ◌||◌, List, [], ◌∷◌, ◌++◌, map, refl, ap, ◌∙◌, arith, ⊎_elim}
+use Rattle.std.proofs.Common.{◌≡◌, ◌≢◌, ℕ, zero, suc, ◌+◌, ◌-◌, ◌*◌, ◌/◌, ◌<◌, ◌≤◌, ◌==◌, Bool, true, false, ◌||◌, List, [], ◌∷◌, ◌++◌, map, refl, sym, ap, ◌∙◌, arith, ⊎_elim}
 use Rattle.std.specs.Prelude.{if◌then◌else◌}
 use Rattle.std.specs.List.{list_any}
 use Rattle.std.proofs.lemmas.Bool.{cases_eq}
@@ -42,7 +42,7 @@ regions_count first (suc n) = ⊎_elim
     (cases_eq ((first + 1) / 1024) (first / 1024))
 
 -- numbers below a bound and others from it on
-any_append : (test : ℕ → Bool) (xs ys : List ℕ) → list_any test (xs ++ ys) ≡ (list_any test xs || list_any test ys)
+pub any_append : (test : ℕ → Bool) (xs ys : List ℕ) → list_any test (xs ++ ys) ≡ (list_any test xs || list_any test ys)
 any_append test [] ys = refl
 any_append test (x ∷ xs) ys = ap (λ b. test x || b) (any_append test xs ys) ∙ by_test (test x)
   where
@@ -75,3 +75,62 @@ regions_low n first (suc count) h = (omega (arith, h), regions_low n (first + 1)
 pub regions_high : (n first count : ℕ) → 1024 * n ≤ first → Each (λ y. n ≤ y) (regions_from first count)
 regions_high n first zero h = tt
 regions_high n first (suc count) h = (omega (arith, h), regions_high n (first + 1) count (omega (arith, h)))
+
+-- more pages of one region
+pub one_region : (first n r : ℕ) → ((k : ℕ) → k < n → (first + k) / 1024 ≡ r) → Each (λ y. y ≡ r) (regions_from first n)
+one_region first zero r h = tt
+one_region first (suc n) r h =
+    let z : first + 0 ≡ first = omega arith in
+    (ap (λ x. x / 1024) (sym z) ∙ h 0 (omega arith), one_region (first + 1) n r (λ k l. let e : first + 1 + k ≡ first + suc k = omega arith in ap (λ x. x / 1024) e ∙ h (suc k) (omega (arith, l))))
+
+or_true : (b : Bool) → (b || true) ≡ true
+or_true true = refl
+or_true false = refl
+
+any_same : (r x : ℕ) (ys : List ℕ) → Each (λ y. y ≡ r) ys → x ≢ r → list_any (λ m. m == x) ys ≡ false
+any_same r x [] h ne = refl
+any_same r x (y ∷ ys) h ne =
+    let e = h.0 in
+    ap (λ b. b || list_any (λ m. m == x) ys) (other y x (λ q. ne (sym q ∙ e))) ∙ any_same r x ys h.1 ne
+
+any_first : (r : ℕ) (y : ℕ) (ys : List ℕ) → y ≡ r → list_any (λ m. m == r) (y ∷ ys) ≡ true
+any_first r y ys e = ap (λ b. b || list_any (λ m. m == r) ys) (same y r e)
+
+different_same : (r y : ℕ) (ys : List ℕ) → Each (λ z. z ≡ r) (y ∷ ys) → different (y ∷ ys) ≡ 1
+different_same r y [] h = refl
+different_same r y (z ∷ zs) h =
+    let b = ap (λ k. list_any (λ m. m == k) (z ∷ zs)) h.0 ∙ any_first r z zs h.1.0 in
+    let d = different_same r z zs h.1 in
+    ap (λ x. (if x then 0 else 1) + different (z ∷ zs)) b ∙ omega (arith, d)
+
+-- the same region again and again, before others and after them
+pub different_before : (r y : ℕ) (ys xs : List ℕ) → Each (λ z. z ≡ r) (y ∷ ys) → different ((y ∷ ys) ++ xs) ≡ different xs + (if list_any (λ m. m == r) xs then 0 else 1)
+different_before r y [] xs h =
+    let b = ap (λ k. list_any (λ m. m == k) xs) h.0 in
+    ap (λ x. (if x then 0 else 1) + different xs) b ∙ by_test (list_any (λ m. m == r) xs)
+  where
+    by_test : (b : Bool) → (if b then 0 else 1) + different xs ≡ different xs + (if b then 0 else 1)
+    by_test true = omega arith
+    by_test false = omega arith
+different_before r y (z ∷ zs) xs h =
+    let b = ap (λ k. list_any (λ m. m == k) ((z ∷ zs) ++ xs)) h.0 ∙ any_first r z (zs ++ xs) h.1.0 in
+    let d = different_before r z zs xs h.1 in
+    ap (λ x. (if x then 0 else 1) + different ((z ∷ zs) ++ xs)) b ∙ omega (arith, d)
+
+pub different_after : (r : ℕ) (xs : List ℕ) (y : ℕ) (ys : List ℕ) → Each (λ z. z ≡ r) (y ∷ ys) → different (xs ++ y ∷ ys) ≡ different xs + (if list_any (λ m. m == r) xs then 0 else 1)
+different_after r [] y ys h = different_same r y ys h
+different_after r (x ∷ xs) y ys h = ⊎_elim
+    (λ e.
+    let any = any_append (λ m. m == x) xs (y ∷ ys) ∙ ap (λ b. list_any (λ m. m == x) xs || b) (ap (λ k. list_any (λ m. m == k) (y ∷ ys)) e ∙ any_first r y ys h.0) ∙ or_true (list_any (λ m. m == x) xs) in
+    let a = ap (λ b. (if b then 0 else 1) + different (xs ++ y ∷ ys)) any in
+    let b = ap (λ k. (if list_any (λ m. m == k) xs then 0 else 1) + different xs) e in
+    let c = ap {B = ℕ} (λ b. (if b || list_any (λ m. m == r) xs then 0 else 1)) (same x r e) in
+    let d = different_after r xs y ys h in
+    a ∙ omega (arith, d, b, c))
+    (λ ne.
+    let any = any_append (λ m. m == x) xs (y ∷ ys) ∙ ap (λ b. list_any (λ m. m == x) xs || b) (any_same r x (y ∷ ys) h ne) ∙ or_false (list_any (λ m. m == x) xs) in
+    let a = ap (λ b. (if b then 0 else 1) + different (xs ++ y ∷ ys)) any in
+    let c = ap {B = ℕ} (λ b. (if b || list_any (λ m. m == r) xs then 0 else 1)) (other x r ne) in
+    let d = different_after r xs y ys h in
+    a ∙ omega (arith, d, c))
+    (cases_eq x r)

@@ -124,14 +124,12 @@ room_next frames root first count k writes ram new used after page h adds l is =
   added = done ++ h.added;
   building = adds h.site h.regions h.added h.frames_is h.root_is h.building;
   room =
-      let a = length-append (done ++ h.added) h.site.initial in
       let b = length-append done h.added in
-      let c = length-append h.added h.site.initial in
       let d = length-entries (first + (count - k)) k writes in
       let m = different_more (regions_of (entries_from first (count - k - 1) writes)) (page / 1024 ∷ (regions_of done ++ h.regions)) in
       let q = ap different all in
       let r = h.room in
-      omega (arith, a, b, c, d, m, q, r, l);
+      omega (arith, b, d, m, q, r, l);
 }
   where
     done : List Entry

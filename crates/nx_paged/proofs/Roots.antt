@@ -17,7 +17,7 @@ use Rattle.nx_paged.specs.Starting.{entries_at, program_entries, CanStart}
 use Rattle.nx_paged.proofs.Rooms.{length-entries, different_more}
 
 abbrev pub site_of : List ℕ → List ℕ → ℕ → (ℕ → Role) → ℕ → Site
-site_of old frames root before g = record { frames = frames; group = g; root = root; old = old; before = before; base = 0; initial = []; first = no_maps root }
+site_of old frames root before g = record { frames = frames; group = g; root = root; old = old; before = before; base = 0; first = no_maps root }
 
 root_built : (old frames : List ℕ) (root : ℕ) (before : ℕ → Role) (g : ℕ) → Each (FrameAt (λ r. r ≡ Free) before) frames → Each (IsFresh old) frames → AreOnce frames → slice_index frames 0 ≡ ram_start + 4096 * root → ram_start + length old ≤ 4294967296 → 1 ≤ length frames → Building (site_of old frames root before g) [] [] old 1
 unfolding look
@@ -37,7 +37,7 @@ root_built old (a ∷ rest) root before g free fresh once is fits one = record {
   few = omega arith;
   count = omega arith;
   tables = λ i small. refl;
-  pages = λ v. refl;
+  pages = λ v some. absurd cc;
   zeroed = λ v p some q. absurd cc;
   others = λ v none. refl;
 }
@@ -74,7 +74,7 @@ data_of p low nd ns = entries_from (p.data_at / 4096) nd true ++ stack_of low ns
 abbrev pub all_of : ProgImage → ℕ → ℕ → ℕ → ℕ → List Entry
 all_of p low nt nd ns = entries_from (p.text_at / 4096) nt false ++ data_of p low nd ns
 
-all_is : (p : ProgImage) (low stack nt nd ns : ℕ) → nt ≡ pages_of (length p.text) → nd ≡ pages_of (length p.init) → ns ≡ pages_of stack → program_entries p low stack ≡ all_of p low nt nd ns
+pub all_is : (p : ProgImage) (low stack nt nd ns : ℕ) → nt ≡ pages_of (length p.text) → nd ≡ pages_of (length p.init) → ns ≡ pages_of stack → program_entries p low stack ≡ all_of p low nt nd ns
 all_is p low stack nt nd ns t d s =
     ap (λ n. entries_from (p.text_at / 4096) n false ++ (entries_at p.data_at (length p.init) true ++ (entries_at low stack true ++ []))) (sym t)
     ∙ ap (λ n. entries_from (p.text_at / 4096) nt false ++ (entries_from (p.data_at / 4096) n true ++ (entries_at low stack true ++ []))) (sym d)
@@ -145,7 +145,7 @@ data_room old frames root p low stack before nt nd ns ram used z b = record {
   room =
       let e = enough_is old frames root p low stack before nt nd ns z in
       let a = different_more (regions_of (entries_from (p.text_at / 4096) nt false)) (data_regions p low nd ns) in
-      let l = ap length (append-nil (stack_of low ns)) ∙ ap length (append-nil (entries_from (low / 4096) ns true)) in
+      let l = ap length (append-nil (entries_from (low / 4096) ns true)) in
       omega (arith, e, a, l, length-entries (low / 4096) ns true);
 }
 
@@ -159,7 +159,7 @@ text_room old frames root p low stack before nt nd ns ram used z b = record {
   building = b;
   room =
       let e = enough_is old frames root p low stack before nt nd ns z in
-      let l = ap length (append-nil (data_of p low nd ns)) ∙ length-append (entries_from (p.data_at / 4096) nd true) (stack_of low ns) in
+      let l = length-append (entries_from (p.data_at / 4096) nd true) (stack_of low ns) in
       let k = ap length (append-nil (entries_from (low / 4096) ns true)) in
       omega (arith, e, l, k, length-entries (low / 4096) ns true, length-entries (p.data_at / 4096) nd true);
 }

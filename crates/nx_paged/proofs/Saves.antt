@@ -147,7 +147,7 @@ pub all_live : (s : Paging) (role : ℕ → Role) (ts : List Tenant) (h v frame 
 all_live s role [] h v frame i xs ok is low high room = tt
 all_live s role (t ∷ ts) h v frame i xs ok is low high room =
     let k = ok.0 in
-    (record { maps = k.maps; root = k.root; stands = page_written s.ram role t.number k.maps h v frame i xs k.stands is low high room; shows = k.shows; frames = k.frames; count = k.count }, all_live s role ts h v frame i xs ok.1 is low high room)
+    (record { maps = k.maps; root = k.root; stands = page_written s.ram role t.number k.maps h v frame i xs k.stands is low high room; tables = k.tables; shows = k.shows; frames = k.frames; count = k.count }, all_live s role ts h v frame i xs ok.1 is low high room)
 
 both_stand : (s : Paging) (role : ℕ → Role) (ts : List Tenant) (h v frame i : ℕ) (xs : List ℕ) → Each (IsLive s.ram s.stock (paged_plan s) role) ts → role frame ≡ Leaf h v → 4096 * frame ≤ i → i + length xs ≤ 4096 * frame + 4096 → 4096 * frame + 4096 ≤ length s.ram → Each (StandsBoth s.ram (put_bytes s.ram i xs) role role (paged_plan s)) ts
 both_stand s role [] h v frame i xs ok is low high room = tt

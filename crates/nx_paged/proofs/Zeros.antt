@@ -1,5 +1,5 @@
 -- Zeros, and bytes that are put into them.
-use Rattle.std.proofs.Common.{◌≡◌, ℕ, zero, suc, ◌+◌, ◌-◌, ◌*◌, ◌<◌, ◌≤◌, List, ◌++◌, length, drop, replicate, get_or, refl, sym, ap, ◌∙◌, arith}
+use Rattle.std.proofs.Common.{◌≡◌, ℕ, zero, suc, ◌+◌, ◌-◌, ◌*◌, ◌<◌, ◌≤◌, List, ◌∷◌, ◌++◌, length, drop, replicate, get_or, refl, sym, ap, ◌∙◌, arith}
 use Rattle.std.proofs.lemmas.List.{ext_get_or}
 use Rattle.nx_base.specs.ByteLists.{put_bytes}
 use Rattle.nx_space.specs.Starts.{pages_of, paged}
@@ -31,3 +31,7 @@ put-zeros bytes =
 -- a list of zeros
 pub are_zeros : (bs : List ℕ) (n : ℕ) → length bs ≡ n → ((k : ℕ) → k < n → get_or bs k 0 ≡ 0) → bs ≡ zeros n
 are_zeros bs n long each = ext_get_or 0 bs (zeros n) (long ∙ sym (length-zeros n)) (λ k h. let l : k < n = omega (arith, h, long) in each k l ∙ sym (get-zeros n k l))
+
+pub zeros_more : (n m : ℕ) → zeros n ++ zeros m ≡ zeros (n + m)
+zeros_more zero m = let e : m ≡ zero + m = omega arith in ap zeros e
+zeros_more (suc n) m = let e : suc (n + m) ≡ suc n + m = omega arith in ap (λ l. 0 ∷ l) (zeros_more n m) ∙ ap zeros e

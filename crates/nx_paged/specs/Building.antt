@@ -39,7 +39,7 @@ pub record IsFresh (ram : List ℕ) (a : ℕ) : Type 0 where
   pub inside : a + 4096 ≤ ram_start + length ram
 
 -- what stays while pages are added: the frames that were taken, the group and its root's frame, the RAM and
--- the roles before, the frames that the group had, and the pages and maps that it had
+-- the roles before, how many of the group's frames were no pages, and the maps that it had
 pub record Site : Type 0 where
   pub frames : List ℕ
   pub group : ℕ
@@ -47,7 +47,6 @@ pub record Site : Type 0 where
   pub old : List ℕ
   pub before : ℕ → Role
   pub base : ℕ
-  pub initial : List Entry
   pub first : Maps
 
 -- some frames are used, and the tables map what there was and what was added
@@ -64,9 +63,9 @@ pub record Building (s : Site) (regions : List ℕ) (added : List Entry) (ram : 
   pub taken : Each (FrameAt (λ r. is_of s.group r ≡ true) roles) (take used s.frames)
   pub elsewhere : (f : ℕ) → Each (λ a. a ≢ ram_start + 4096 * f) (take used s.frames) → roles f ≡ s.before f
   pub few : used ≤ length s.frames
-  pub count : used + s.base ≡ 1 + (length (added ++ s.initial) + different regions)
+  pub count : used + s.base ≡ 1 + (length added + different regions)
   pub tables : (i : ℕ) → i < 1024 → is_some (maps.tables i) ≡ list_any (λ m. m == i) regions
-  pub pages : (v : ℕ) → right_of (maps.pages v) ≡ look (added ++ s.initial) v
+  pub pages : (v : ℕ) → is_some (look added v) ≡ true → right_of (maps.pages v) ≡ look added v
   pub zeroed : (v : ℕ) (p : Page) → is_some (look added v) ≡ true → maps.pages v ≡ Some p → IsZeroed ram p.frame
   pub others : (v : ℕ) → look added v ≡ None → maps.pages v ≡ s.first.pages v
 
@@ -78,7 +77,7 @@ pub record HasRoom (frames : List ℕ) (root : ℕ) (more : List ℕ) (n : ℕ) 
   pub regions : List ℕ
   pub added : List Entry
   pub building : Building site regions added ram used
-  pub room : 1 + (n + length (added ++ site.initial) + different (more ++ regions)) ≤ site.base + length frames
+  pub room : 1 + (n + length added + different (more ++ regions)) ≤ site.base + length frames
 
 -- these regions get a table each and these pages are added, whatever there was
 abbrev pub Adds : List ℕ → ℕ → List ℕ → List Entry → List ℕ → ℕ → List ℕ → ℕ → Type 0

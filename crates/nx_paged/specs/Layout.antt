@@ -157,7 +157,7 @@ pub among_left : (s : Span) (xs ys : List Span) → IsAmong s xs → IsAmong s (
 among_left s [] ys h = absurd h
 among_left s (x ∷ xs) ys h = ⊎_elim (λ e. inl e) (λ r. inr (among_left s xs ys r)) h
 
-stack_among : (memory_map : MemoryMap) (slot : ℕ) (slots : List ℕ) → list_any (λ s. s == slot) slots ≡ true → IsAmong (stack_span memory_map slot) (stack_spans memory_map slots)
+pub stack_among : (memory_map : MemoryMap) (slot : ℕ) (slots : List ℕ) → list_any (λ s. s == slot) slots ≡ true → IsAmong (stack_span memory_map slot) (stack_spans memory_map slots)
 stack_among memory_map slot [] h = absurd cc
 stack_among memory_map slot (s ∷ ss) h = by_test (s == slot) refl h (λ q. stack_among memory_map slot ss q)
   where
@@ -169,15 +169,15 @@ stack_among memory_map slot (s ∷ ss) h = by_test (s == slot) refl h (λ q. sta
     by_test false e q more = inr (more q)
 
 -- bytes of a window that may be written may be written
-apart_of : (s : Span) (x : Span) (xs : List Span) → Each (IsApart x) xs → IsAmong s xs → IsApart x s
+pub apart_of : (s : Span) (x : Span) (xs : List Span) → Each (IsApart x) xs → IsAmong s xs → IsApart x s
 apart_of s x [] h a = absurd a
 apart_of s x (y ∷ ys) h a = ⊎_elim (λ e. subst (IsApart x) e h.0) (λ r. apart_of s x ys h.1 r) a
 
-not_held : (k : ℕ) (t s : Span) (at n : ℕ) → IsApart t s → 1 ≤ n → s.start ≤ at → at + n ≤ s.start + s.bytes → lies_in (part_of k t) at n ≡ false
+pub not_held : (k : ℕ) (t s : Span) (at n : ℕ) → IsApart t s → 1 ≤ n → s.start ≤ at → at + n ≤ s.start + s.bytes → lies_in (part_of k t) at n ≡ false
 unfolding lies_in
 not_held k t s at n a one low high = ⊎_elim (λ l. grind (arith, nat_tests, l, one, low, high)) (λ l. grind (arith, nat_tests, l, one, low, high)) a
 
-is_held : (k : ℕ) (s : Span) (at n : ℕ) → s.start ≤ at → at + n ≤ s.start + s.bytes → lies_in (part_of k s) at n ≡ true
+pub is_held : (k : ℕ) (s : Span) (at n : ℕ) → s.start ≤ at → at + n ≤ s.start + s.bytes → lies_in (part_of k s) at n ≡ true
 unfolding lies_in
 is_held k s at n low high = grind (arith, nat_tests, low, high)
 

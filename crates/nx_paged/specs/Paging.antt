@@ -1,6 +1,7 @@
 -- A space whose views are given by page tables in its RAM.
-use Rattle.std.specs.Prelude.{◌≡◌, ℕ, ◌+◌, ◌-◌, ◌*◌, ◌/◌, ◌%◌, ◌^◌, ◌<◌, ◌≤◌, true, List, [], ◌∷◌, length, map, take, drop}
-use Rattle.std.specs.List.{All}
+use Rattle.std.specs.Prelude.{◌≡◌, ℕ, ◌+◌, ◌-◌, ◌*◌, ◌/◌, ◌%◌, ◌^◌, ◌<◌, ◌≤◌, ◌==◌, Bool, true, List, [], ◌∷◌, length, map, take, drop}
+use Rattle.std.specs.List.{All, list_any}
+use Rattle.std.specs.Option.{is_some}
 use Rattle.nx_base.specs.ByteLists.{AreBytes}
 use Rattle.nx_ram.specs.declared.prog_image.ProgImage.{ProgImage}
 use Rattle.nx_frames.specs.Stock.{Stock, AreHeld, frames_of}
@@ -8,7 +9,7 @@ use Rattle.nx_sv32.specs.Walk.{ram_start}
 use Rattle.nx_tables.specs.Maps.{Maps}
 use Rattle.nx_tables.specs.Roles.{Role, Free, is_of, Stands}
 use Rattle.nx_space.specs.World.{Group, MemoryMap, World}
-use Rattle.nx_space.specs.Starts.{frames_for}
+use Rattle.nx_space.specs.Starts.{frames_for, mapped_pages}
 use Rattle.nx_paged.specs.Tenants.{Tenant, are_distinct, are_once, frames_taken}
 use Rattle.nx_paged.specs.Spans.{Each, Shows, parts_from, span_bytes, spans_of}
 use Rattle.nx_paged.specs.Outside.{outside_of}
@@ -124,11 +125,17 @@ pub record FrameAt (P : Role → Type 0) (roles : ℕ → Role) (a : ℕ) : Type
   pub address : a ≡ ram_start + 4096 * frame
   pub role : P (roles frame)
 
--- one group's tables stand in the RAM, and show its windows; the frames that it took are its own
+-- one of a group's pages is in a region of 4 MiB
+abbrev pub has_region : MemoryMap → ℕ → List ℕ → ℕ → Bool
+has_region memory_map place slots i = list_any (λ m. m == i) (map (λ page. page / 1024) (mapped_pages memory_map place slots))
+
+-- one group's tables stand in the RAM, one for each region that has a page, and show its windows; the
+-- frames that it took are its own
 pub record IsLive (ram : List ℕ) (stock : Stock) (memory_map : MemoryMap) (role : ℕ → Role) (t : Tenant) : Type 0 where
   pub maps : Maps
   pub root : maps.root ≡ t.root
   pub stands : Stands ram role t.number maps
+  pub tables : (i : ℕ) → i < 1024 → is_some (maps.tables i) ≡ has_region memory_map t.program t.slots i
   pub shows : Shows maps (spans_of memory_map t.program t.slots)
   pub frames : Each (FrameAt (λ r. is_of t.number r ≡ true) role) (frames_of stock t.taken)
   pub count : t.taken.count ≡ frames_for memory_map t.program t.slots

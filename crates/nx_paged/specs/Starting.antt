@@ -1,5 +1,7 @@
 -- A program whose windows are mapped, in frames that nobody had.
-use Rattle.std.specs.Prelude.{◌≡◌, ◌≢◌, ℕ, ◌+◌, ◌*◌, ◌/◌, ◌%◌, ◌<◌, ◌≤◌, Bool, true, false, List, [], ◌∷◌, ◌++◌, length, slice_index, replicate, None}
+use Rattle.std.specs.Prelude.{◌≡◌, ◌≢◌, ℕ, ◌+◌, ◌*◌, ◌/◌, ◌%◌, ◌<◌, ◌≤◌, ◌==◌, Bool, true, false, List, [], ◌∷◌, ◌++◌, length, slice_index, replicate, None}
+use Rattle.std.specs.List.{list_any}
+use Rattle.std.specs.Option.{is_some}
 use Rattle.nx_ram.specs.declared.prog_image.ProgImage.{ProgImage}
 use Rattle.nx_frames.specs.Chains.{AreOnce}
 use Rattle.nx_sv32.specs.Walk.{ram_start}
@@ -48,6 +50,7 @@ pub record IsMappedIn (old new : List ℕ) (frames : List ℕ) (root : ℕ) (p :
   pub stands : Stands new roles g maps
   pub mapped : Each (λ s. IsMapped maps s.start s.bytes s.writes) (program_spans p low stack)
   pub others : (at : ℕ) → at < 4294967296 → first_span 0 (program_spans p low stack) at ≡ None → maps.pages (at / 4096) ≡ None
+  pub tables : (i : ℕ) → i < 1024 → is_some (maps.tables i) ≡ list_any (λ m. m == i) (regions_of (program_entries p low stack))
   pub taken : Each (FrameAt (λ r. is_of g r ≡ true) roles) frames
   pub elsewhere : (f : ℕ) → Each (λ a. a ≢ ram_start + 4096 * f) frames → roles f ≡ before f
   pub kept : (f k : ℕ) → is_of g (roles f) ≡ false → k < 4096 → slice_index new (4096 * f + k) ≡ slice_index old (4096 * f + k)

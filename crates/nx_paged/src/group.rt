@@ -1,9 +1,12 @@
 ghost use Rattle.std.specs.Prelude.{◌≡◌, ◌<◌, [], ◌∷◌, ◌++◌, length};
 ghost use Rattle.nx_frames.specs.declared.frames.Taken.{Taken};
+ghost use Rattle.nx_frames.specs.Chains.{AreApart};
+ghost use Rattle.nx_frames.specs.Stock.{Holds, SameFrames, KeepsOthers, frames_of};
+ghost use Rattle.nx_space.specs.Starts.{has_slot};
 ghost use Rattle.nx_paged.specs.Tenants.{Tenant, root_of, place_of};
 
 use arrayvec::ArrayVec;
-use nx_frames::Taken;
+use nx_frames::{Frames, Taken};
 use std::marker::Model;
 
 /// A group that has a view: its program's place, the slot of its main thread, the frame of its root,
@@ -48,6 +51,37 @@ impl PagedGroup {
         ensures { result ≡ self.now.number }
     {
         self.number
+    }
+
+    /// The place of the group's program.
+    pub fn program(&self) -> usize
+        ensures { result ≡ self.now.program }
+    {
+        self.program
+    }
+
+    /// Whether the group has the stack of a slot.
+    pub fn has_slot(&self, slot: u32) -> bool
+        ensures { result ≡ has_slot self.now.slots slot }
+    {
+        self.slots.contains(&slot)
+    }
+
+    /// Gives the group the stack of a slot, and the frames that were taken for it.
+    pub fn add_stack(&mut self, frames: &mut Frames, slot: u32, more: Taken)
+        requires own { Holds frames.old self.old.taken }
+        requires more { Holds frames.old more }
+        requires apart { AreApart (frames_of frames.old self.old.taken) (frames_of frames.old more) }
+        requires room { length self.old.slots < 64 }
+        ensures group { self.new ≡ record self.old { slots = self.old.slots ++ slot ∷ []; taken = self.new.taken } }
+        ensures joined { frames_of frames.new self.new.taken ≡ frames_of frames.old self.old.taken ++ frames_of frames.old more }
+        ensures holds { Holds frames.new self.new.taken }
+        ensures free { frames.new.free ≡ frames.old.free }
+        ensures same { SameFrames frames.old frames.new }
+        ensures others { KeepsOthers frames.old frames.new (frames_of frames.old self.old.taken ++ frames_of frames.old more) }
+    {
+        frames.join(&mut self.taken, more);
+        self.slots.push(slot);
     }
 
     /// The frame of the group's root, counted from the RAM's start.

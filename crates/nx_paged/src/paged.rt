@@ -5,17 +5,18 @@ ghost use Rattle.nx_base.specs.Good.{is_good};
 ghost use Rattle.nx_ram.specs.Widths.{IsWidth};
 ghost use Rattle.nx_space.specs.World.{IsEntered, has_view, view_in};
 ghost use Rattle.nx_space.specs.Lawful.{OnlyEntered};
-ghost use Rattle.nx_space.specs.Starts.{start_need, start_regs, free, started, finished, but_outside};
+ghost use Rattle.nx_space.specs.Starts.{program_of, start_need, start_regs, thread_regs, grow_need, free, started, grown, finished, but_outside};
 ghost use Rattle.nx_sv32.specs.Walk.{ram_start};
 ghost use Rattle.nx_tables.specs.Maps.{satp_of};
 ghost use Rattle.nx_paged.specs.Tenants.{root_of};
 ghost use Rattle.nx_paged.specs.Paging.{Paging, IsPlaced, IsPaged, FitsPaged, fresh_world};
 
-use crate::build::frame_number;
+use crate::build::{add_pages, frame_number};
 use crate::group::{PagedGroup, find, root_of};
-use crate::program::{map_program, program_need};
+use crate::program::{map_program, pages_of, program_need, stack_need};
 use crate::regs::regs_with;
 use crate::walks::are_walked;
+use crate::write::zero_bytes;
 use nx_base::causes::{FETCH_PAGE_FAULT, LOAD_PAGE_FAULT, STORE_PAGE_FAULT};
 use nx_base::{Access, OutOfMemory, PAGE_BYTES, Regs};
 use nx_frames::{Frames, TooFew};
@@ -217,6 +218,48 @@ impl PagedSpace {
                     .groups
                     .push(PagedGroup::new(group, prog, slot, root, taken));
                 self.root = root_of(&self.groups, self.entered);
+                Ok(regs)
+            }
+            Err(few) => Err(few),
+        }
+    }
+
+    /// Gives a group the stack of `slot`, set to zeros, in further frames where it hasn't that stack
+    /// yet. This answers the registers of a new thread, whose entry and argument the caller sets.
+    pub fn grow_stack_slot(&mut self, group: u32, slot: u32) -> Result<Regs, TooFew>
+        requires group { has_view (world_of self.old).groups group ≡ true }
+        requires slot { slot < (world_of self.old).memory_map.threads }
+        ensures regs { IfOk result (λ regs. regs ≡ thread_regs (world_of self.old).memory_map (program_of (world_of self.old).groups group) slot) }
+        ensures grown { OnOk result (world_of self.new ≡ but_outside (grown (world_of self.old) group slot) (world_of self.new)) }
+        ensures enough { OnOk result (grow_need (world_of self.old) group slot ≤ free (world_of self.old)) }
+        ensures too_few { IfErr result (λ few. (few ≡ record { need = grow_need (world_of self.old) group slot; free = free (world_of self.old) }) × (few.free < few.need)) }
+        ensures refused { OnErr result (world_of self.new ≡ world_of self.old) }
+    {
+        let at = find(&self.groups, group);
+        let root = self.groups[at].root();
+        let stack_at = STACKS_AT + slot * STACK_STRIDE;
+        let program = &self.programs[self.groups[at].program()];
+        let regs = regs_with(program.end_thread, stack_at, stack_at + self.stack, 0);
+        if self.groups[at].has_slot(slot) {
+            let satp = 0x80000000 + (RAM_START / PAGE_BYTES + root);
+            zero_bytes(&mut self.ram, satp, stack_at, self.stack);
+            return Ok(regs);
+        }
+        let need = stack_need(&self.ram, root, stack_at, self.stack);
+        match self.frames.take(&mut self.ram, need) {
+            Ok(more) => {
+                let _all = add_pages(
+                    &mut self.ram,
+                    &self.frames,
+                    &more,
+                    0,
+                    root,
+                    stack_at / PAGE_BYTES,
+                    pages_of(self.stack),
+                    true,
+                );
+                let _bytes = self.ram.len();
+                self.groups[at].add_stack(&mut self.frames, slot, more);
                 Ok(regs)
             }
             Err(few) => Err(few),

@@ -1,6 +1,9 @@
-ghost use Rattle.std.specs.Prelude.{◌≡◌, ◌+◌, ◌*◌, ◌/◌, ◌%◌, ◌^◌, ◌≤◌, ◌<◌, length, map};
+ghost use Rattle.std.specs.Prelude.{◌≡◌, ◌+◌, ◌*◌, ◌/◌, ◌%◌, ◌^◌, ◌≤◌, ◌<◌, if◌then◌else◌, length, map};
+ghost use Rattle.std.specs.Option.{is_some};
 ghost use Rattle.nx_base.specs.ByteLists.{AreBytes};
 ghost use Rattle.nx_frames.specs.Stock.{Holds, frames_of};
+ghost use Rattle.nx_sv32.specs.Walk.{entry_at};
+ghost use Rattle.nx_tables.specs.Maps.{table_by};
 ghost use Rattle.nx_space.specs.Starts.{different, pages_from, pages_of};
 ghost use Rattle.nx_paged.specs.Paging.{IsLaidOut};
 ghost use Rattle.nx_paged.specs.Starting.{Startable, MapsAll, program_entries};
@@ -12,6 +15,7 @@ use nx_base::PAGE_BYTES;
 use nx_frames::{Frames, Taken};
 use nx_ram::{ProgImage, Ram};
 use nx_space::RAM_START;
+use nx_tables::table_of;
 
 /// How many pages so many bytes take.
 pub fn pages_of(count: u32) -> u32
@@ -120,4 +124,18 @@ pub fn program_need(program: &ProgImage, low: u32, stack: u32) -> u32
     1 + frames_of_pages(program.text_at / PAGE_BYTES, text)
         + frames_of_pages(program.data_at / PAGE_BYTES, contents)
         + frames_of_pages(low / PAGE_BYTES, pages_of(stack))
+}
+
+/// How many frames a stack from `low` on takes more: one for each page, and one for the table of their
+/// region where the root in a frame has none.
+pub fn stack_need(ram: &Ram, root: u32, low: u32, stack: u32) -> u32
+    requires inside { 4096 * root + 4096 ≤ length ram.now }
+    requires stack { stack ≤ 0x100000 }
+    ensures { result ≡ pages_of stack + (if is_some (table_by (entry_at ram.now (4096 * root + 4 * (low / 4096 / 1024)))) then 0 else 1) }
+{
+    let pages = pages_of(stack);
+    match table_of(ram, root, low / PAGE_BYTES / 1024) {
+        Some(_) => pages,
+        None => pages + 1,
+    }
 }
