@@ -10,3 +10,4 @@ pub mod Faults
 pub mod Spares
 pub mod Thens
 pub mod Chains
+pub mod NestedLaws

@@ -4,3 +4,4 @@ pub mod Lawful
 pub mod Growing
 pub mod Faults
 pub mod Sparing
+pub mod Nested
