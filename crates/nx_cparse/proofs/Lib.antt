@@ -7,3 +7,5 @@ pub mod Last
 pub mod Growth
 pub mod Steps
 pub mod Splits
+pub mod Expressions
+pub mod FileReads

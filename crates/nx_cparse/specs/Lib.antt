@@ -1,3 +1,4 @@
 pub mod Commas
 pub mod Reading
 pub mod Answers
+pub mod Files
