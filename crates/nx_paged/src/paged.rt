@@ -21,7 +21,7 @@ use nx_base::causes::{FETCH_PAGE_FAULT, LOAD_PAGE_FAULT, STORE_PAGE_FAULT};
 use nx_base::{Access, OutOfMemory, PAGE_BYTES, Regs};
 use nx_frames::{Frames, TooFew};
 use nx_ram::{ProgImage, Ram};
-use nx_space::RAM_START;
+use nx_space::{RAM_START, Space};
 use nx_sv32::walk;
 use std::alloc::Global;
 
@@ -95,47 +95,29 @@ impl PagedSpace {
     {
         0x80000000 + (RAM_START / PAGE_BYTES + self.root)
     }
+}
 
-    /// The word to run at an address of the entered view.
-    pub fn fetch(&mut self, at: u32) -> Result<u32, u8>
-        requires entered { IsEntered (world_of self.old) }
-        requires aligned { at % 4 ≡ 0 }
-        ensures answer { result ≡ fetch_word (view_in (world_of self.old)) at }
-        ensures same { world_of self.new ≡ world_of self.old }
-    {
+impl Space for PagedSpace {
+    ghost use Rattle.nx_paged.specs.State.{state_of, world_of};
+    ghost use Rattle.nx_paged.specs.Lawful.{paged_lawful, paged_bytes};
+
+    ghost world = { λ s. world_of s };
+
+    fn fetch(&mut self, at: u32) -> Result<u32, u8> {
         match walk(&self.ram, self.satp(), at, Access::Fetch) {
             Ok(to) => Ok(self.ram.load32(to - RAM_START)),
             Err(_) => Err(FETCH_PAGE_FAULT),
         }
     }
 
-    /// The number of `width` bytes at an address of the entered view, without a sign.
-    pub fn load(&mut self, at: u32, width: u8) -> Result<u32, u8>
-        requires entered { IsEntered (world_of self.old) }
-        requires width { IsWidth width }
-        requires aligned { at % width ≡ 0 }
-        ensures answer { result ≡ load_bytes (view_in (world_of self.old)) at width }
-        ensures small { IfOk result (λ n. n < 2 ^ (8 * width)) }
-        ensures same { world_of self.new ≡ world_of self.old }
-    {
+    fn load(&mut self, at: u32, width: u8) -> Result<u32, u8> {
         match walk(&self.ram, self.satp(), at, Access::Load) {
             Ok(to) => Ok(self.ram.load(to - RAM_START, width)),
             Err(_) => Err(LOAD_PAGE_FAULT),
         }
     }
 
-    /// Writes the low `width` bytes of a number at an address of the entered view, and no other
-    /// byte of any view.
-    pub fn store(&mut self, at: u32, width: u8, value: u32) -> Result<(), u8>
-        requires entered { IsEntered (world_of self.old) }
-        requires width { IsWidth width }
-        requires aligned { at % width ≡ 0 }
-        ensures answer { MatchResult result
-            (λ _. store_bytes (view_in (world_of self.old)) at width value ≡ Ok (view_in (world_of self.new)))
-            (λ cause. store_bytes (view_in (world_of self.old)) at width value ≡ Err cause) }
-        ensures only { OnlyEntered (world_of self.old) (world_of self.new) }
-        ensures refused { OnErr result (world_of self.new ≡ world_of self.old) }
-    {
+    fn store(&mut self, at: u32, width: u8, value: u32) -> Result<(), u8> {
         match walk(&self.ram, self.satp(), at, Access::Store) {
             Ok(to) => {
                 self.ram.store(to - RAM_START, width, value);
@@ -145,57 +127,27 @@ impl PagedSpace {
         }
     }
 
-    /// Whether each of the `len` bytes at an address of the entered view may be used so, and none
-    /// lies past the last address. No bytes are good anywhere.
-    pub fn good(&mut self, at: u32, len: u32, access: Access) -> bool
-        requires entered { IsEntered (world_of self.old) }
-        ensures answer { result ≡ is_good (view_in (world_of self.old)) at len access }
-        ensures same { world_of self.new ≡ world_of self.old }
-    {
+    fn good(&mut self, at: u32, len: u32, access: Access) -> bool {
         len == 0
             || at as u64 + len as u64 <= 0x100000000
                 && are_walked(&self.ram, self.satp(), at, len, access)
     }
 
-    /// The byte at an address that is good for loading.
-    pub fn peek(&mut self, at: u32) -> u8
-        requires entered { IsEntered (world_of self.old) }
-        requires good { is_good (view_in (world_of self.old)) at 1 access.Load ≡ true }
-        ensures answer { load_bytes (view_in (world_of self.old)) at 1 ≡ Ok result }
-        ensures same { world_of self.new ≡ world_of self.old }
-    {
+    fn peek(&mut self, at: u32) -> u8 {
         match walk(&self.ram, self.satp(), at, Access::Load) {
             Ok(to) => self.ram.load8(to - RAM_START),
             Err(_) => unreachable!(),
         }
     }
 
-    /// Writes the byte at an address that is good for storing, and no other byte of any view.
-    pub fn poke(&mut self, at: u32, value: u8)
-        requires entered { IsEntered (world_of self.old) }
-        requires good { is_good (view_in (world_of self.old)) at 1 access.Store ≡ true }
-        ensures answer { store_bytes (view_in (world_of self.old)) at 1 value ≡ Ok (view_in (world_of self.new)) }
-        ensures only { OnlyEntered (world_of self.old) (world_of self.new) }
-    {
+    fn poke(&mut self, at: u32, value: u8) {
         match walk(&self.ram, self.satp(), at, Access::Store) {
             Ok(to) => self.ram.store(to - RAM_START, 1, value as u32),
             Err(_) => unreachable!(),
         }
     }
 
-    /// Gives a new group its view, in frames of its own: its text, its data and the stack of `slot`.
-    /// This answers the registers of its main thread.
-    pub fn start(&mut self, group: u32, prog: usize, slot: u32, fresh: bool) -> Result<Regs, TooFew>
-        requires new { has_view (world_of self.old).groups group ≡ false }
-        requires room { length (world_of self.old).groups < (world_of self.old).memory_map.threads }
-        requires prog { prog < length (world_of self.old).memory_map.programs }
-        requires slot { slot < (world_of self.old).memory_map.threads }
-        ensures regs { IfOk result (λ regs. regs ≡ start_regs (world_of self.old).memory_map prog slot) }
-        ensures started { OnOk result (world_of self.new ≡ but_outside (started (world_of self.old) group prog slot fresh) (world_of self.new)) }
-        ensures enough { OnOk result (start_need (world_of self.old).memory_map prog slot ≤ free (world_of self.old)) }
-        ensures too_few { IfErr result (λ few. (few ≡ record { need = start_need (world_of self.old).memory_map prog slot; free = free (world_of self.old) }) × (few.free < few.need)) }
-        ensures refused { OnErr result (world_of self.new ≡ world_of self.old) }
-    {
+    fn start(&mut self, group: u32, prog: usize, slot: u32, fresh: bool) -> Result<Regs, TooFew> {
         let _always = fresh;
         let program = &self.programs[prog];
         let low = STACKS_AT + slot * STACK_STRIDE;
@@ -224,17 +176,7 @@ impl PagedSpace {
         }
     }
 
-    /// Gives a group the stack of `slot`, set to zeros, in further frames where it hasn't that stack
-    /// yet. This answers the registers of a new thread, whose entry and argument the caller sets.
-    pub fn grow_stack_slot(&mut self, group: u32, slot: u32) -> Result<Regs, TooFew>
-        requires group { has_view (world_of self.old).groups group ≡ true }
-        requires slot { slot < (world_of self.old).memory_map.threads }
-        ensures regs { IfOk result (λ regs. regs ≡ thread_regs (world_of self.old).memory_map (program_of (world_of self.old).groups group) slot) }
-        ensures grown { OnOk result (world_of self.new ≡ but_outside (grown (world_of self.old) group slot) (world_of self.new)) }
-        ensures enough { OnOk result (grow_need (world_of self.old) group slot ≤ free (world_of self.old)) }
-        ensures too_few { IfErr result (λ few. (few ≡ record { need = grow_need (world_of self.old) group slot; free = free (world_of self.old) }) × (few.free < few.need)) }
-        ensures refused { OnErr result (world_of self.new ≡ world_of self.old) }
-    {
+    fn grow_stack_slot(&mut self, group: u32, slot: u32) -> Result<Regs, TooFew> {
         let at = find(&self.groups, group);
         let root = self.groups[at].root();
         let stack_at = STACKS_AT + slot * STACK_STRIDE;
@@ -266,23 +208,19 @@ impl PagedSpace {
         }
     }
 
-    /// Enters a group's view.
-    pub fn enter(&mut self, group: u32)
-        requires { has_view (world_of self.old).groups group ≡ true }
-        ensures { world_of self.new ≡ record (world_of self.old) { entered = group } }
-    {
+    fn enter(&mut self, group: u32) {
         self.root = root_of(&self.groups, group);
         self.entered = group;
     }
 
-    /// Takes a group's view away, and gives its frames back.
-    pub fn finish(&mut self, group: u32)
-        requires { has_view (world_of self.old).groups group ≡ true }
-        ensures { world_of self.new ≡ but_outside (finished (world_of self.old) group) (world_of self.new) }
-    {
+    fn finish(&mut self, group: u32) {
         let at = find(&self.groups, group);
         let taken = self.groups.remove(at).into_taken();
         self.frames.give(taken);
         self.root = root_of(&self.groups, self.entered);
     }
+
+    ghost lawful = { λ s. paged_lawful (state_of s) s.placed };
+
+    ghost bytes = { λ s. paged_bytes (state_of s) s.placed };
 }

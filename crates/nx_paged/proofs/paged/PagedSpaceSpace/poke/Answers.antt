@@ -7,7 +7,7 @@ use Rattle.nx_paged.proofs.Saves.{with_ram}
 use Rattle.nx_paged.proofs.Accesses.{InPage, one_byte, writes_store}
 use Rattle.nx_paged.specs.State.{state_of}
 use Rattle.nx_paged.proofs.Answers.{Asks, inside_of, store_ok, store_only, store_placed, store_paged, good_no_fault}
-use Rattle.nx_paged.proofs.paged.PagedSpace.poke.Goals as goal
+use Rattle.nx_paged.proofs.paged.PagedSpaceSpace.poke.Goals as goal
 
 pub overflow_sub-to : goal.overflow_sub-to
 overflow_sub-to c =

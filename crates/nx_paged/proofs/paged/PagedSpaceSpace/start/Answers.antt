@@ -11,7 +11,7 @@ use Rattle.nx_paged.specs.State.{state_of}
 use Rattle.nx_paged.proofs.Ends.{root_low}
 use Rattle.nx_paged.proofs.Begun.{Starts, program_in, low_of, newcomer, begun_placed}
 use Rattle.nx_paged.proofs.Started.{free_is, need_same, start_ready, start_paged, start_world, start_enough, pushed}
-use Rattle.nx_paged.proofs.paged.PagedSpace.start.Goals as goal
+use Rattle.nx_paged.proofs.paged.PagedSpaceSpace.start.Goals as goal
 
 pub map_program-requires-clause-start : goal.map_program-requires-clause-start
 map_program-requires-clause-start c =

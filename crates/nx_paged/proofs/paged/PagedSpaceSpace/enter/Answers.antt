@@ -2,7 +2,7 @@ use Rattle.std.proofs.Common.{◌∙◌, ◌<◌, ap, subst, sym}
 use Rattle.nx_paged.specs.Tenants.{root_of}
 use Rattle.nx_paged.specs.State.{state_of}
 use Rattle.nx_paged.proofs.Ends.{root_low, entered_placed, entered_paged}
-use Rattle.nx_paged.proofs.paged.PagedSpace.enter.Goals as goal
+use Rattle.nx_paged.proofs.paged.PagedSpaceSpace.enter.Goals as goal
 
 pub invariant_of-self : goal.invariant_of-self
 invariant_of-self c =

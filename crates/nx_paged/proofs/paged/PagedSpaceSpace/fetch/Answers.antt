@@ -3,7 +3,7 @@ use Rattle.nx_base.specs.declared.access.Access.TheVariants.{Fetch}
 use Rattle.nx_paged.proofs.Accesses.{InPage, in_page, runs_fetch}
 use Rattle.nx_paged.specs.State.{state_of}
 use Rattle.nx_paged.proofs.Answers.{Asks, inside_of, fetch_ok, fetch_err}
-use Rattle.nx_paged.proofs.paged.PagedSpace.fetch.Goals as goal
+use Rattle.nx_paged.proofs.paged.PagedSpaceSpace.fetch.Goals as goal
 
 pub overflow_sub-to : goal.overflow_sub-to
 overflow_sub-to c =

@@ -14,7 +14,7 @@ use Rattle.nx_frames.specs.Chains.{AreApart}
 use Rattle.nx_frames.specs.Stock.{Holds, KeepsOthers, frames_of}
 use Rattle.nx_paged.proofs.Grown.{Joined}
 use Rattle.nx_paged.proofs.Grows.{Asks, found, element, program_is, group_is, root_inside, root_small, clear_place, clear_paged, clear_world, clear_need, Took, Mapped, growth, asked_need, need_told, grow_room, grow_held, grow_apart, grow_few, grow_enough, grow_items, grow_placed, grow_long, grow_paged, grow_world, grow_root}
-use Rattle.nx_paged.proofs.paged.PagedSpace.grow_stack_slot.Goals as goal
+use Rattle.nx_paged.proofs.paged.PagedSpaceSpace.grow_stack_slot.Goals as goal
 
 pub index-requires : goal.index-requires
 index-requires c =

@@ -3,7 +3,7 @@ use Rattle.nx_base.specs.declared.access.Access.TheVariants.{Load}
 use Rattle.nx_paged.proofs.Accesses.{InPage, in_page, reads_load}
 use Rattle.nx_paged.specs.State.{state_of}
 use Rattle.nx_paged.proofs.Answers.{Asks, inside_of, load_ok, load_err}
-use Rattle.nx_paged.proofs.paged.PagedSpace.load.Goals as goal
+use Rattle.nx_paged.proofs.paged.PagedSpaceSpace.load.Goals as goal
 
 pub overflow_sub-to : goal.overflow_sub-to
 overflow_sub-to c =

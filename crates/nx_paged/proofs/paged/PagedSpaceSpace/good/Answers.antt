@@ -4,7 +4,7 @@ use Rattle.nx_paged.specs.Tenants.{root_of}
 use Rattle.nx_paged.specs.State.{state_of}
 use Rattle.nx_paged.proofs.Goods.{first_true, first_false, none_true}
 use Rattle.nx_paged.proofs.Answers.{Asks, good_is}
-use Rattle.nx_paged.proofs.paged.PagedSpace.good.Goals as goal
+use Rattle.nx_paged.proofs.paged.PagedSpaceSpace.good.Goals as goal
 
 pub returns-then-len-eq0-clause-answer : goal.returns-then-len-eq0-clause-answer
 returns-then-len-eq0-clause-answer c =

@@ -3,7 +3,7 @@ use Rattle.nx_base.specs.declared.access.Access.TheVariants.{Load}
 use Rattle.nx_paged.proofs.Accesses.{InPage, one_byte, reads_load}
 use Rattle.nx_paged.specs.State.{state_of}
 use Rattle.nx_paged.proofs.Answers.{Asks, inside_of, load_ok, good_no_fault}
-use Rattle.nx_paged.proofs.paged.PagedSpace.peek.Goals as goal
+use Rattle.nx_paged.proofs.paged.PagedSpaceSpace.peek.Goals as goal
 
 pub overflow_sub-to : goal.overflow_sub-to
 overflow_sub-to c =

@@ -8,7 +8,7 @@ use Rattle.nx_paged.specs.Paging.{paged_plan, paged_world, IsPlaced, IsPaged}
 use Rattle.nx_paged.specs.Finding.{tenant_view}
 use Rattle.nx_paged.specs.State.{state_of}
 use Rattle.nx_paged.proofs.Ends.{place_inside, root_low, ended_holds, ended_placed, ended_count, ended_paged, ended_world}
-use Rattle.nx_paged.proofs.paged.PagedSpace.finish.Goals as goal
+use Rattle.nx_paged.proofs.paged.PagedSpaceSpace.finish.Goals as goal
 
 pub remove-requires : goal.remove-requires
 remove-requires c =
