@@ -29,4 +29,5 @@ pub mod GrownWindows
 pub mod Grown
 pub mod Cleared
 pub mod Grows
+pub mod GrownShares
 pub mod Fresh

@@ -29,7 +29,7 @@ needs_without memory_map (g ∷ gs) number h = by_test (g.number == number) h (�
     by_test true q more = omega arith
     by_test false q more = let r = more q in omega (arith, r)
 
-free_outside : (u new : World) → new ≡ but_outside u new → free new ≡ free u
+pub free_outside : (u new : World) → new ≡ but_outside u new → free new ≡ free u
 free_outside u new e = by_pages u.memory_map.is_paged refl (ap free e)
   where
     by_pages : (b : Bool) → u.memory_map.is_paged ≡ b → free new ≡ free (if u.memory_map.is_paged then record u { outside = new.outside } else u) → free new ≡ free u

@@ -8,7 +8,7 @@ ghost use Rattle.nx_sv32.specs.Walk.{ram_start, walk};
 ghost use Rattle.nx_tables.specs.Maps.{satp_of};
 ghost use Rattle.nx_space.specs.World.{Home, World, IsEntered, has_view, group_of, view_in, seen_by};
 ghost use Rattle.nx_space.specs.Lawful.{IsWorld};
-ghost use Rattle.nx_space.specs.Starts.{frames_of, free, start_need, started, finished, but_outside};
+ghost use Rattle.nx_space.specs.Starts.{frames_of, free, start_need, grow_need, started, grown, finished, but_outside};
 ghost use Rattle.nx_paged.specs.Tenants.{has_tenant, root_of};
 ghost use Rattle.nx_paged.specs.Walks.{all_walked};
 ghost use Rattle.nx_paged.specs.Paging.{Paging, paged_world, IsPlaced, IsPaged};
@@ -25,10 +25,11 @@ pub fn a_paged_world_is_lawful(space: &PagedSpace)
     let _same = space;
 }
 
-/// A law: with pages, a start takes exactly the frames that it needs, and the end of a group gives back
-/// exactly those that it had.
+/// A law: with pages, a start and a stack of a thread take exactly the frames that they need, and the end
+/// of a group gives back exactly those that it had.
 pub fn frames_are_taken_and_given_back()
     ensures start { (w new : World) (number program slot : ℕ) (fresh : Bool) → w.memory_map.is_paged ≡ true → start_need w.memory_map program slot ≤ free w → new ≡ but_outside (started w number program slot fresh) new → free new + start_need w.memory_map program slot ≡ free w }
+    ensures stack { (w new : World) (number slot : ℕ) → w.memory_map.is_paged ≡ true → has_view w.groups number ≡ true → grow_need w number slot ≤ free w → new ≡ but_outside (grown w number slot) new → free new + grow_need w number slot ≡ free w }
     ensures end { (w new : World) (number : ℕ) → IsWorld w → has_view w.groups number ≡ true → new ≡ but_outside (finished w number) new → free new ≡ free w + frames_of w.memory_map (group_of w.groups number) }
 {}
 

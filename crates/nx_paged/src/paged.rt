@@ -214,10 +214,11 @@ impl Space for PagedSpace {
     }
 
     fn finish(&mut self, group: u32) {
+        let entered = self.entered;
         let at = find(&self.groups, group);
         let taken = self.groups.remove(at).into_taken();
         self.frames.give(taken);
-        self.root = root_of(&self.groups, self.entered);
+        self.root = root_of(&self.groups, entered);
     }
 
     ghost lawful = { λ s. paged_lawful (state_of s) s.placed };
