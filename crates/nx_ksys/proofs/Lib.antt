@@ -3,3 +3,17 @@ pub mod Counting
 pub mod Counted
 pub mod Meaning
 pub mod Still
+pub mod Standing
+pub mod Tables
+pub mod Dropping
+pub mod Starting
+pub mod Waking
+pub mod Owing
+pub mod FileRows
+pub mod TreeRows
+pub mod Regrouping
+pub mod EndRows
+pub mod StartRows
+pub mod ThreadRows
+pub mod Steps
+pub mod Choices

@@ -15,3 +15,5 @@ pub mod Told
 pub mod Boot
 pub mod Gathered
 pub mod Laws
+pub mod Soundness
+pub mod TableLaws

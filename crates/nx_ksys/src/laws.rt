@@ -1,4 +1,5 @@
 ghost use Rattle.nx_ksys.specs.Laws.{CallsCountOne, ConsolesGrow, PointersMeanNothing, PickingIsStill, ChosenAgain, EndedWithoutGroups};
+ghost use Rattle.nx_ksys.specs.TableLaws.{BootIsSound, CallsStaySound, ChoicesStaySound};
 
 /// A law: each call counts one, whatever it answers.
 pub fn a_call_counts_one()
@@ -23,4 +24,14 @@ pub fn choosing_changes_nothing_that_is_reported()
     ensures still { PickingIsStill }
     ensures again { ChosenAgain }
     ensures ended { EndedWithoutGroups }
+{}
+
+/// A law: each state that is reached is sound. Numbers of live threads differ, and were given; a
+/// live thread's group lives, with its main thread in the slot that is the group's place; and what
+/// a thread waits for agrees with the call that it keeps. So it is after boot, and so it stays
+/// under each call that has its words, and under each choice.
+pub fn the_kernel_stays_sound()
+    ensures boot { BootIsSound }
+    ensures call { CallsStaySound }
+    ensures choice { ChoicesStaySound }
 {}
