@@ -1,5 +1,5 @@
 ghost use Rattle.nx_ksys.specs.Laws.{CallsCountOne, ConsolesGrow, PointersMeanNothing, PickingIsStill, ChosenAgain, EndedWithoutGroups};
-ghost use Rattle.nx_ksys.specs.TableLaws.{BootIsSound, CallsStaySound, ChoicesStaySound};
+ghost use Rattle.nx_ksys.specs.TableLaws.{BootIsSound, CallsStaySound, ChoicesStaySound, NumbersWereGiven, SlotsDiffer};
 
 /// A law: each call counts one, whatever it answers.
 pub fn a_call_counts_one()
@@ -34,4 +34,11 @@ pub fn the_kernel_stays_sound()
     ensures boot { BootIsSound }
     ensures call { CallsStaySound }
     ensures choice { ChoicesStaySound }
+{}
+
+/// A law: in a sound state a live thread has a number that was given and a slot that there is, and
+/// no other live thread has that slot.
+pub fn live_threads_have_numbers_and_slots_of_their_own()
+    ensures given { NumbersWereGiven }
+    ensures slots { SlotsDiffer }
 {}
