@@ -1,5 +1,5 @@
 ghost use Rattle.nx_ksys.specs.Laws.{CallsCountOne, ConsolesGrow, PointersMeanNothing, PickingIsStill, ChosenAgain, EndedWithoutGroups};
-ghost use Rattle.nx_ksys.specs.TableLaws.{BootIsSound, CallsStaySound, ChoicesStaySound, NumbersWereGiven, SlotsDiffer};
+ghost use Rattle.nx_ksys.specs.TableLaws.{BootIsSound, CallsStaySound, ChoicesStaySound, NumbersWereGiven, SlotsDiffer, CallsChangeThreads};
 
 /// A law: each call counts one, whatever it answers.
 pub fn a_call_counts_one()
@@ -41,4 +41,13 @@ pub fn the_kernel_stays_sound()
 pub fn live_threads_have_numbers_and_slots_of_their_own()
     ensures given { NumbersWereGiven }
     ensures slots { SlotsDiffer }
+{}
+
+/// A law: a call of a ready thread changes the table of threads exactly as its own answers say.
+/// The caller waits in the call, or is gone by its last; then a group's threads are gone, or one
+/// new ready thread stands; then each reply makes its receiver ready. Each reply in its turn is for
+/// a thread that waits in a call which its outputs fit. A thread that starts has the next number
+/// and a slot that no live thread has.
+pub fn a_call_changes_the_threads_as_it_answers()
+    ensures { CallsChangeThreads }
 {}
