@@ -1,5 +1,5 @@
 ghost use Rattle.nx_ksys.specs.Laws.{CallsCountOne, ConsolesGrow, PointersMeanNothing, PickingIsStill, ChosenAgain, EndedWithoutGroups};
-ghost use Rattle.nx_ksys.specs.TableLaws.{BootIsSound, CallsStaySound, ChoicesStaySound, NumbersWereGiven, SlotsDiffer, CallsChangeThreads};
+ghost use Rattle.nx_ksys.specs.TableLaws.{BootIsSound, CallsStaySound, ChoicesStaySound, NumbersWereGiven, SlotsDiffer, CallsChangeThreads, ChoicesChangeThreads};
 
 /// A law: each call counts one, whatever it answers.
 pub fn a_call_counts_one()
@@ -50,4 +50,10 @@ pub fn live_threads_have_numbers_and_slots_of_their_own()
 /// and a slot that no live thread has.
 pub fn a_call_changes_the_threads_as_it_answers()
     ensures { CallsChangeThreads }
+{}
+
+/// A law: when a thread is chosen, the threads whose time has come are told so, as by a call's
+/// replies, and no other changes; the chosen one is there, and ready.
+pub fn a_choice_wakes_whom_it_answers()
+    ensures { ChoicesChangeThreads }
 {}
