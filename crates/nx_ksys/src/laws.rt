@@ -1,5 +1,5 @@
 ghost use Rattle.nx_ksys.specs.Laws.{CallsCountOne, ConsolesGrow, PointersMeanNothing, PickingIsStill, ChosenAgain, EndedWithoutGroups};
-ghost use Rattle.nx_ksys.specs.TableLaws.{BootIsSound, CallsStaySound, ChoicesStaySound, NumbersWereGiven, SlotsDiffer, CallsChangeThreads, ChoicesChangeThreads};
+ghost use Rattle.nx_ksys.specs.TableLaws.{BootIsSound, CallsStaySound, ChoicesStaySound, NumbersWereGiven, SlotsDiffer, CallsChangeThreads, ChoicesChangeThreads, SameMeaningSameStep, NobodysCallIsSilent};
 
 /// A law: each call counts one, whatever it answers.
 pub fn a_call_counts_one()
@@ -56,4 +56,11 @@ pub fn a_call_changes_the_threads_as_it_answers()
 /// replies, and no other changes; the chosen one is there, and ready.
 pub fn a_choice_wakes_whom_it_answers()
     ensures { ChoicesChangeThreads }
+{}
+
+/// A law: calls whose words mean the same lead to the same, and a call of a thread that there
+/// isn't changes nothing but the count of calls.
+pub fn what_a_call_means_decides_it()
+    ensures same { SameMeaningSameStep }
+    ensures nobody { NobodysCallIsSilent }
 {}
