@@ -18,8 +18,8 @@ use Rattle.nx_ctree.specs.declared.expression.PlaceKind.{PlaceKind}
 use Rattle.nx_ctree.specs.declared.expression.PlaceKind.TheVariants as place
 use Rattle.nx_checked.specs.declared.checked.StepValue.TheVariants as step
 use Rattle.nx_ctype.specs.declared.names.Names.{Names}
-use Rattle.nx_ctype.specs.declared.types.Target.{Target}
-use Rattle.nx_ctype.specs.Rules.{paren_rule, unary_rule, binary_rule, conditional_rule, index_rule, address_rule, cast_rule, index_place, deref_place, assign_rule, step_rule}
+use Rattle.nx_crules.specs.declared.types.Target.{Target}
+use Rattle.nx_crules.specs.Rules.{paren_rule, unary_rule, binary_rule, conditional_rule, index_rule, address_rule, cast_rule, index_place, deref_place, assign_rule, step_rule}
 use Rattle.nx_ctype.specs.Verdicts.{Part, Check, part_of, part, one, two, three, verdict, place_verdict, constant, base_bytes, name_check, size_check, target_check, text_check, call_check, kind_part, place_part}
 
 module _ (names : Names) (rows : List CallRow) where

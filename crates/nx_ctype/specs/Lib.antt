@@ -1,4 +1,3 @@
 pub mod Named
-pub mod Types
-pub mod Rules
+pub mod Lookups
 pub mod Verdicts

@@ -16,19 +16,15 @@ use Rattle.nx_ctree.specs.declared.expression.ExprKind.TheOpen as form
 use Rattle.nx_checked.specs.declared.checked.Element.TheVariants as element
 use Rattle.nx_checked.specs.declared.checked.StepValue.TheVariants as step
 use Rattle.nx_checked.specs.declared.checked.CheckedExpr.TheVariants as expr
-use Rattle.nx_ctype.specs.declared.types.CType.TheVariants as type
-use Rattle.nx_ctype.specs.declared.types.Function.{Function}
-use Rattle.nx_ctype.specs.declared.types.Typed.{Typed}
-use Rattle.nx_ctype.specs.declared.types.Target.{Target}
+use Rattle.nx_crules.specs.declared.types.CType.TheVariants as type
+use Rattle.nx_crules.specs.declared.types.Function.{Function}
+use Rattle.nx_crules.specs.declared.types.Typed.{Typed}
+use Rattle.nx_crules.specs.declared.types.Target.{Target}
 use Rattle.nx_ctype.specs.declared.names.Names.{Names}
 use Rattle.nx_ctype.specs.declared.used.Used.{Used}
-use Rattle.nx_ctype.specs.Types.{found, missing, variable_of, value_of, target_of, bytes_in}
-use Rattle.nx_ctype.specs.Rules.{paren_rule, unary_rule, binary_rule, conditional_rule, index_rule, address_rule, cast_rule, index_place, deref_place, assign_rule, step_rule, file_rule, row_rule, enter, entry_rule, starts_thread}
-
--- A rule's answer at a line.
-abbrev pub at : {A : Type 0} → ℕ → Result A CKind → Result A CFault
-at line (Ok x) = Ok x
-at line (Err k) = Err (fault.Text line k)
+use Rattle.nx_ctype.specs.Lookups.{found, missing, variable_of, value_of, target_of, bytes_in, entry_rule, enter}
+use Rattle.nx_crules.specs.Answers.{at, Fails}
+use Rattle.nx_crules.specs.Rules.{paren_rule, unary_rule, binary_rule, conditional_rule, index_rule, address_rule, cast_rule, index_place, deref_place, assign_rule, step_rule, file_rule, row_rule, starts_thread}
 
 infixl 10 ◌>>=◌
 abbrev pub ◌>>=◌ : {A B : Type 0} → Result A CFault → (A → Result B CFault) → Result B CFault
@@ -57,6 +53,13 @@ two rule line a b s = do
   y ← b x.1
   z ← at line (rule x.0 y.0)
   Ok (z, y.1)
+
+-- Two operands, the left one first.
+abbrev pub both : {A B : Type 0} → Check A → Check B → Check (A × B)
+both a b s = do
+  x ← a s
+  y ← b x.1
+  Ok ((x.0, y.0), y.1)
 
 abbrev pub three : {A B C D : Type 0} → (A → B → C → Result D CKind) → ℕ → Check A → Check B → Check C → Check D
 three rule line a b c s = do
@@ -183,10 +186,6 @@ place_verdict names rows p =
     fold-Place (ℕ → Part) (ℕ → Check Target) Part (Check Target) (kind_part names rows) (place_part names) (λ x. x.kind x.line) (λ x. x.kind x.line) p
 
 -- What was answered, with what is used then, is what was to be found, unless memory ran out.
-abbrev pub Fails : {A : Type 0} → CFault → Result A CFault → Type 0
-Fails fault.Memory r = Unit {0}
-Fails (fault.Text line k) r = r ≡ Err (fault.Text line k)
-
 abbrev pub IsGivenUsing : {A : Type 0} → Result A CFault → Used → Result (A × Used) CFault → Type 0
 IsGivenUsing (Ok x) s r = r ≡ Ok (x, s)
 IsGivenUsing (Err e) s r = Fails e r
@@ -195,8 +194,3 @@ IsGivenUsing (Err e) s r = Fails e r
 abbrev pub AreGivenUsing : {A : Type 0} → Result (Vec A) CFault → Used → Result (List A × Used) CFault → Type 0
 AreGivenUsing (Ok xs) s r = r ≡ Ok (xs.items, s)
 AreGivenUsing (Err e) s r = Fails e r
-
--- What was answered is what a rule gives at a line, unless memory ran out.
-abbrev pub IsGiven : {A : Type 0} → Result A CFault → Result A CFault → Type 0
-IsGiven (Ok x) r = r ≡ Ok x
-IsGiven (Err e) r = Fails e r

@@ -2,14 +2,9 @@
 //! fault comes first.
 #![tactic(auto)]
 
-mod assignments;
-mod calls;
 mod lookups;
 mod names;
-mod rules;
-mod types;
 mod used;
 
-pub use names::{Functions, Names, Variables};
-pub use types::{CType, Function, Held, Target, Typed, Variable};
+pub use names::{Functions, Names, Variable, Variables};
 pub use used::Used;

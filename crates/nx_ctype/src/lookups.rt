@@ -1,21 +1,19 @@
 ghost use Rattle.std.specs.Prelude.{◌≡◌, ◌%◌, ◌^◌};
 ghost use Rattle.nx_checked.specs.Frames.{size_of as size_of_element, bytes_of};
-ghost use Rattle.nx_ctype.specs.Types.{
+ghost use Rattle.nx_ctype.specs.Lookups.{
   variable_of,
   missing as missing_name,
   found,
-  type_of,
   value_of as value_of_variable,
   target_of as target_of_variable,
-  scalar_bytes,
   bytes_in as bytes_in_variable,
+  entry_rule,
 };
-ghost use Rattle.nx_ctype.specs.Verdicts.{at, number as number_of};
-ghost use Rattle.nx_ctype.specs.Rules.{entry_rule, entry_function as entry_of_function, is_one_int as is_one_int_of};
+ghost use Rattle.nx_crules.specs.Answers.{at};
+ghost use Rattle.nx_ctype.specs.Verdicts.{number as number_of};
 
-use crate::names::Names;
-use crate::types::{CType, Function, Held, Target, Typed, Variable};
-use nx_checked::{CheckedExpr, Element, Scalar, Shape};
+use crate::names::{Names, Variable};
+use nx_crules::{CType, Target, Typed, entry_function};
 use nx_ctok::{CFault, CKind};
 
 impl Names {
@@ -36,18 +34,6 @@ impl Names {
         match self.functions.get(name) {
             Some(_) => CKind::TypeMismatch,
             None => CKind::UnknownName,
-        }
-    }
-}
-
-impl Held {
-    /// Its type in expressions.
-    pub fn type_of(self) -> CType
-        ensures { result ≡ type_of self }
-    {
-        match self.scalar {
-            Scalar::Int | Scalar::Char => CType::Int,
-            Scalar::Pointer(element) => CType::Pointer(element, self.constant),
         }
     }
 }
@@ -149,31 +135,6 @@ pub(crate) fn name_place(names: &Names, line: u32, name: &[u8]) -> Result<Target
             line,
             kind: names.missing(name),
         }),
-    }
-}
-
-fn is_one_int(params: &[Held]) -> bool
-    ensures { result ≡ is_one_int_of params.now }
-{
-    match params {
-        [param] => matches!(param.scalar, Scalar::Int),
-        _ => false,
-    }
-}
-
-fn entry_function(line: u32, function: &Function) -> Result<Typed, CFault>
-    ensures { result ≡ at line (entry_of_function function.now) }
-{
-    if function.returns && is_one_int(function.params.as_slice()) {
-        Ok(Typed {
-            gives: CType::Entry,
-            tree: CheckedExpr::Function(function.place),
-        })
-    } else {
-        Err(CFault::Text {
-            line,
-            kind: CKind::TypeMismatch,
-        })
     }
 }
 

@@ -4,10 +4,18 @@ ghost use Rattle.std.specs.Option.{option_copied};
 ghost use Rattle.std.specs.Str.{bytes_eq};
 ghost use Rattle.indexmap.specs.IndexMap.{insert_entry};
 
-use crate::types::{Function, Variable};
 use indexmap::IndexMap;
+use nx_crules::{Function, Held};
+use nx_checked::{ArrayName, Cell, Shape};
 use std::alloc::{AllocError, Global};
 use std::marker::Model;
+
+/// A variable.
+#[derive(Clone, Copy, Debug)]
+pub enum Variable {
+    Scalar(Cell, Held),
+    Array(ArrayName, Shape),
+}
 
 /// Functions by their names.
 #[derive(Drop)]
@@ -17,7 +25,7 @@ pub struct Functions {
 
 impl Model for Functions {
     ghost use Rattle.std.specs.Prelude.{List, ℕ};
-    ghost use Rattle.nx_ctype.specs.declared.types.Function.{Function as Known};
+    ghost use Rattle.nx_crules.specs.declared.types.Function.{Function as Known};
     ghost use Rattle.nx_ctype.specs.Named.{named};
 
     ghost Value = { List (List ℕ × Known) };
@@ -61,7 +69,7 @@ pub struct Variables {
 
 impl Model for Variables {
     ghost use Rattle.std.specs.Prelude.{List, ℕ};
-    ghost use Rattle.nx_ctype.specs.declared.types.Variable.{Variable as Known};
+    ghost use Rattle.nx_ctype.specs.declared.names.Variable.{Variable as Known};
     ghost use Rattle.nx_ctype.specs.Named.{named};
 
     ghost Value = { List (List ℕ × Known) };

@@ -1,19 +1,19 @@
 ghost use Rattle.std.specs.Prelude.{◌≡◌};
-ghost use Rattle.nx_ctype.specs.Verdicts.{at, IsGiven};
-ghost use Rattle.nx_ctype.specs.Rules.{
+ghost use Rattle.nx_crules.specs.Answers.{at, IsGiven};
+ghost use Rattle.nx_crules.specs.Rules.{
   compound_of as compound_by,
   moves as moves_pointer,
   compounds as compounds_with,
   cell_assign as cell_assign_of,
+  element_set as element_set_of,
   element_assign as element_assign_of,
   assign_rule,
   is_up as is_up_of,
   step_rule,
 };
 
-use crate::rules::{mismatch, takes};
-use crate::types::{CType, Held, Target, Typed};
-use nx_checked::{Cell, CheckedExpr, CheckedPlace, Element, IntOperator, Scalar, StepValue};
+use crate::taken::{mismatch, takes};
+use crate::types::{CType, Held, Target, Typed, int};
 use nx_ctok::CFault;
 use nx_ctree::{AssignOperator, StepOperator};
 use nx_shared::Shared;
@@ -44,9 +44,11 @@ fn moves(op: IntOperator) -> bool
 fn compounds(op: IntOperator, scalar: Scalar, given: CType) -> bool
     ensures { result ≡ compounds_with op scalar given }
 {
-    match (scalar, given) {
-        (Scalar::Int | Scalar::Char, CType::Int) => true,
-        (Scalar::Pointer(_), CType::Int) => moves(op),
+    match given {
+        CType::Int => match scalar {
+            Scalar::Int | Scalar::Char => true,
+            Scalar::Pointer(_) => moves(op),
+        },
         _ => false,
     }
 }
@@ -88,6 +90,20 @@ fn cell_assign(
     }
 }
 
+fn element_set(
+    op: Option<IntOperator>,
+    element: Element,
+    place: Shared<CheckedPlace>,
+    tree: Shared<CheckedExpr>,
+) -> CheckedExpr
+    ensures { result ≡ element_set_of op element place tree }
+{
+    match op {
+        None => CheckedExpr::AssignElement(element, place, tree),
+        Some(op) => CheckedExpr::CompoundElement(op, element, place, tree),
+    }
+}
+
 fn element_assign(
     alloc: Global,
     line: u32,
@@ -102,23 +118,14 @@ fn element_assign(
         CType::Int => {
             let place = Shared::new(alloc, place)?;
             let tree = Shared::new(alloc, e.tree)?;
-            match op {
-                None => Ok(Typed {
-                    gives: CType::Int,
-                    tree: CheckedExpr::AssignElement(element, place, tree),
-                }),
-                Some(op) => Ok(Typed {
-                    gives: CType::Int,
-                    tree: CheckedExpr::CompoundElement(op, element, place, tree),
-                }),
-            }
+            Ok(int(element_set(op, element, place, tree)))
         }
         _ => Err(mismatch(line)),
     }
 }
 
 /// `=` and the operators that end in it.
-pub(crate) fn assign(
+pub fn assign(
     alloc: Global,
     line: u32,
     op: AssignOperator,
@@ -147,7 +154,7 @@ fn is_up(op: StepOperator) -> bool
 }
 
 /// `++` and `--`.
-pub(crate) fn step(
+pub fn step(
     alloc: Global,
     line: u32,
     value: StepValue,
@@ -168,7 +175,6 @@ pub(crate) fn step(
                 tree: CheckedExpr::StepElement(value, is_up(op), element, place),
             })
         }
-        Target::Element(_, true, _) => Err(mismatch(line)),
-        Target::Array => Err(mismatch(line)),
+        Target::Element(_, true, _) | Target::Array => Err(mismatch(line)),
     }
 }

@@ -1,11 +1,15 @@
-ghost use Rattle.std.specs.Prelude.{◌≡◌, ◌==◌, map, position, IfOk};
-ghost use Rattle.std.specs.Str.{bytes_eq};
-ghost use Rattle.nx_ctype.specs.Verdicts.{at, IsGiven};
-ghost use Rattle.nx_ctype.specs.Rules.{
+ghost use Rattle.std.specs.Prelude.{◌≡◌, map, IfOk};
+ghost use Rattle.nx_crules.specs.Answers.{at, IsGiven};
+ghost use Rattle.nx_crules.specs.Rules.{
   all_taken as all_taken_of,
   fits_params as fits_params_of,
   returned as returned_by,
   file_rule,
+  is_number as is_number_type,
+  is_pointer as is_pointer_type,
+  is_text as is_text_type,
+  is_written as is_written_type,
+  is_number_written as is_number_written_type,
   kind_takes as kind_takes_type,
   all_kinds_take as all_kinds_take_of,
   fits_kinds as fits_kinds_of,
@@ -13,16 +17,16 @@ ghost use Rattle.nx_ctype.specs.Rules.{
   fits_entry as fits_entry_of,
   fits_row as fits_row_of,
   row_rule,
-  with_call,
-  enter as entered,
+  is_one_int as is_one_int_of,
+  entry_function as entry_of_function,
 };
 
-use crate::rules::{mismatch, takes};
+use crate::taken::{mismatch, takes};
 use crate::types::{CType, Function, Held, Typed};
 use nx_base::{KCall, Kind};
 use nx_calls::CallRow;
-use nx_checked::{CheckedExpr, Element};
-use nx_ctok::CFault;
+use nx_ctok::{CFault, CKind};
+use nx_checked::{CheckedExpr, Element, Scalar};
 use sqlite_items::Items;
 use std::alloc::{AllocError, Global};
 
@@ -63,7 +67,7 @@ fn trees(alloc: Global, arguments: Vec<Typed>) -> Result<Items<CheckedExpr>, All
 }
 
 /// A call of a function of the file.
-pub(crate) fn call_function(
+pub fn call_function(
     alloc: Global,
     line: u32,
     function: &Function,
@@ -82,16 +86,59 @@ pub(crate) fn call_function(
     }
 }
 
+fn is_number(given: CType) -> bool
+    ensures { result ≡ is_number_type given }
+{
+    matches!(given, CType::Int)
+}
+
+fn is_pointer(given: CType) -> bool
+    ensures { result ≡ is_pointer_type given }
+{
+    matches!(given, CType::Pointer(_, _))
+}
+
+fn is_text(given: CType) -> bool
+    ensures { result ≡ is_text_type given }
+{
+    match given {
+        CType::Pointer(element, _) => matches!(element, Element::Char),
+        _ => false,
+    }
+}
+
+/// Whether a type is that of a pointer through which bytes are written.
+fn is_written(given: CType) -> bool
+    ensures { result ≡ is_written_type given }
+{
+    match given {
+        CType::Pointer(_, constant) => !constant,
+        _ => false,
+    }
+}
+
+/// Whether a type is that of a pointer through which a number is written.
+fn is_number_written(given: CType) -> bool
+    ensures { result ≡ is_number_written_type given }
+{
+    match given {
+        CType::Pointer(element, constant) => match element {
+            Element::Int => !constant,
+            Element::Char => false,
+        },
+        _ => false,
+    }
+}
+
 fn kind_takes(kind: Kind, given: CType) -> bool
     ensures { result ≡ kind_takes_type kind given }
 {
-    match (kind, given) {
-        (Kind::Word | Kind::Len, CType::Int) => true,
-        (Kind::In, CType::Pointer(_, _)) => true,
-        (Kind::Text, CType::Pointer(Element::Char, _)) => true,
-        (Kind::Out, CType::Pointer(_, false)) => true,
-        (Kind::Out4 | Kind::Out8, CType::Pointer(Element::Int, false)) => true,
-        _ => false,
+    match kind {
+        Kind::Word | Kind::Len => is_number(given),
+        Kind::In => is_pointer(given),
+        Kind::Text => is_text(given),
+        Kind::Out => is_written(given),
+        Kind::Out4 | Kind::Out8 => is_number_written(given),
     }
 }
 
@@ -115,7 +162,7 @@ fn fits_kinds(kinds: &[Kind], arguments: &[Typed]) -> bool
 }
 
 /// Whether a row is that of the call that starts a thread.
-pub(crate) fn starts_thread(row: &CallRow) -> bool
+pub fn starts_thread(row: &CallRow) -> bool
     ensures { result ≡ starts_thread_by row.now.kernel }
 {
     matches!(row.kernel, Some(KCall::NxThread))
@@ -125,7 +172,10 @@ fn fits_entry(arguments: &[Typed]) -> bool
     ensures { result ≡ fits_entry_of arguments.now }
 {
     match arguments {
-        [x, y] => matches!((x.gives, y.gives), (CType::Entry, CType::Int)),
+        [x, y] => match x.gives {
+            CType::Entry => is_number(y.gives),
+            _ => false,
+        },
         _ => false,
     }
 }
@@ -141,7 +191,7 @@ fn fits_row(row: &CallRow, arguments: &[Typed]) -> bool
 }
 
 /// A call by the table, by its place among the calls that are used.
-pub(crate) fn call_row(
+pub fn call_row(
     alloc: Global,
     line: u32,
     row: &CallRow,
@@ -161,34 +211,28 @@ pub(crate) fn call_row(
     }
 }
 
-fn place_among(calls: &[usize], row: usize) -> Option<usize>
-    ensures { result ≡ position (λ c. c == row) calls.now }
+fn is_one_int(params: &[Held]) -> bool
+    ensures { result ≡ is_one_int_of params.now }
 {
-    calls.iter().position(|c| *c == row)
-}
-
-/// The place of a call among those that are used. It is added where it isn't there yet.
-pub(crate) fn enter(calls: &mut Items<usize>, row: usize) -> Result<u32, AllocError>
-    ensures { IfOk result (λ k. entered row calls.old ≡ (k, calls.new)) }
-{
-    match place_among(calls.as_slice(), row) {
-        Some(place) => match u32::try_from(place) {
-            Ok(place) => Ok(place),
-            Err(_) => Err(AllocError),
-        },
-        None => match u32::try_from(calls.len()) {
-            Ok(place) => {
-                calls.push(row)?;
-                Ok(place)
-            }
-            Err(_) => Err(AllocError),
-        },
+    match params {
+        [param] => matches!(param.scalar, Scalar::Int),
+        _ => false,
     }
 }
 
-/// The place of a name in the call table.
-pub(crate) fn place_in(rows: &[CallRow], name: &[u8]) -> Option<usize>
-    ensures { result ≡ position (λ row. bytes_eq name.now row.name) rows.now }
+/// The name of a function as the argument that a thread starts with: that of a function `int f(int)`.
+pub fn entry_function(line: u32, function: &Function) -> Result<Typed, CFault>
+    ensures { result ≡ at line (entry_of_function function.now) }
 {
-    rows.iter().position(|row| name == row.name.as_slice())
+    if function.returns && is_one_int(function.params.as_slice()) {
+        Ok(Typed {
+            gives: CType::Entry,
+            tree: CheckedExpr::Function(function.place),
+        })
+    } else {
+        Err(CFault::Text {
+            line,
+            kind: CKind::TypeMismatch,
+        })
+    }
 }

@@ -1,4 +1,7 @@
-use nx_checked::{ArrayName, Cell, CheckedExpr, CheckedPlace, Element, Scalar, Shape};
+ghost use Rattle.std.specs.Prelude.{◌≡◌};
+ghost use Rattle.nx_crules.specs.Types.{type_of};
+
+use nx_checked::{Cell, CheckedExpr, CheckedPlace, Element, Scalar};
 use sqlite_items::Items;
 
 /// The type of an expression.
@@ -21,13 +24,6 @@ pub struct Held {
     pub scalar: Scalar,
     /// Whether it is a pointer to what may only be read.
     pub constant: bool,
-}
-
-/// A variable.
-#[derive(Clone, Copy, Debug)]
-pub enum Variable {
-    Scalar(Cell, Held),
-    Array(ArrayName, Shape),
 }
 
 /// A function as its callers see it.
@@ -58,4 +54,25 @@ pub enum Target {
     Element(Element, bool, CheckedPlace),
     /// An array, which can't be written to as a whole.
     Array,
+}
+
+impl Held {
+    /// Its type in expressions.
+    pub fn type_of(self) -> CType
+        ensures { result ≡ type_of self }
+    {
+        match self.scalar {
+            Scalar::Int | Scalar::Char => CType::Int,
+            Scalar::Pointer(element) => CType::Pointer(element, self.constant),
+        }
+    }
+}
+
+pub(crate) fn int(tree: CheckedExpr) -> Typed
+    ensures { result ≡ record { gives = CType.Int; tree = tree } }
+{
+    Typed {
+        gives: CType::Int,
+        tree,
+    }
 }

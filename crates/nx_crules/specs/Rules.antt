@@ -1,8 +1,6 @@
 -- The typing rules, one for each operator: what it gives and does, by the types of its operands.
-use Rattle.std.specs.Prelude.{ℕ, ◌==◌, Bool, true, false, ◌&&◌, List, [], ◌∷◌, ◌++◌, length, map, position, Option, None, Some, Result, Ok, Err, is_some, if◌then◌else◌}
+use Rattle.std.specs.Prelude.{ℕ, ◌==◌, Bool, true, false, ◌&&◌, List, [], ◌∷◌, length, map, Option, None, Some, Result, Ok, Err, if◌then◌else◌}
 use Rattle.std.specs.List.{list_all, zip}
-use Rattle.std.specs.Map.{lookup}
-use Rattle.std.specs.Str.{bytes_eq}
 use Rattle.nx_base.specs.declared.calls.Kind.{Kind}
 use Rattle.nx_base.specs.declared.calls.Kind.TheVariants as kind
 use Rattle.nx_base.specs.declared.calls.KCall.{KCall}
@@ -25,7 +23,9 @@ use Rattle.nx_checked.specs.declared.checked.Element.TheVariants as element
 use Rattle.nx_checked.specs.declared.checked.Scalar.{Scalar}
 use Rattle.nx_checked.specs.declared.checked.Scalar.TheVariants as scalar
 use Rattle.nx_checked.specs.declared.checked.Cell.{Cell}
+use Rattle.nx_checked.specs.declared.checked.Conversion.{Conversion}
 use Rattle.nx_checked.specs.declared.checked.Conversion.TheVariants as convert
+use Rattle.nx_checked.specs.declared.checked.IntPrefix.{IntPrefix}
 use Rattle.nx_checked.specs.declared.checked.IntPrefix.TheVariants as prefix
 use Rattle.nx_checked.specs.declared.checked.IntOperator.{IntOperator}
 use Rattle.nx_checked.specs.declared.checked.IntOperator.TheVariants as operator
@@ -34,15 +34,14 @@ use Rattle.nx_checked.specs.declared.checked.CheckedExpr.{CheckedExpr}
 use Rattle.nx_checked.specs.declared.checked.CheckedExpr.TheVariants as expr
 use Rattle.nx_checked.specs.declared.checked.CheckedPlace.{CheckedPlace}
 use Rattle.nx_checked.specs.declared.checked.CheckedPlace.TheVariants as place
-use Rattle.nx_ctype.specs.declared.types.CType.{CType}
-use Rattle.nx_ctype.specs.declared.types.CType.TheVariants as type
-use Rattle.nx_ctype.specs.declared.types.Held.{Held}
-use Rattle.nx_ctype.specs.declared.types.Function.{Function}
-use Rattle.nx_ctype.specs.declared.types.Typed.{Typed}
-use Rattle.nx_ctype.specs.declared.types.Target.{Target}
-use Rattle.nx_ctype.specs.declared.types.Target.TheVariants as target
-use Rattle.nx_ctype.specs.declared.names.Names.{Names}
-use Rattle.nx_ctype.specs.Types.{is_same, takes, type_of}
+use Rattle.nx_crules.specs.declared.types.CType.{CType}
+use Rattle.nx_crules.specs.declared.types.CType.TheVariants as type
+use Rattle.nx_crules.specs.declared.types.Held.{Held}
+use Rattle.nx_crules.specs.declared.types.Function.{Function}
+use Rattle.nx_crules.specs.declared.types.Typed.{Typed}
+use Rattle.nx_crules.specs.declared.types.Target.{Target}
+use Rattle.nx_crules.specs.declared.types.Target.TheVariants as target
+use Rattle.nx_crules.specs.Types.{is_same, takes, type_of}
 
 -- A rule that doesn't take its operands.
 abbrev pub wrong : {A : Type 0} → Result A CKind
@@ -60,12 +59,19 @@ abbrev pub paren_rule : Typed → Result Typed CKind
 paren_rule x = valued x.gives x
 
 -- "-", "!" and "~" take a number, "*" a pointer (C11 6.5.3).
+abbrev pub prefix_typed : IntPrefix → CType → CheckedExpr → Result Typed CKind
+prefix_typed p type.Int t = typed type.Int (expr.Unary p t)
+prefix_typed p _ t = wrong
+
+abbrev pub deref_typed : CType → CheckedExpr → Result Typed CKind
+deref_typed (type.Pointer w c) t = typed type.Int (expr.Load w (place.Deref t))
+deref_typed _ t = wrong
+
 abbrev pub unary_typed : UnaryOperator → CType → CheckedExpr → Result Typed CKind
-unary_typed unary.Minus type.Int t = typed type.Int (expr.Unary prefix.Minus t)
-unary_typed unary.Not type.Int t = typed type.Int (expr.Unary prefix.Not t)
-unary_typed unary.Complement type.Int t = typed type.Int (expr.Unary prefix.Complement t)
-unary_typed unary.Deref (type.Pointer w c) t = typed type.Int (expr.Load w (place.Deref t))
-unary_typed _ _ t = wrong
+unary_typed unary.Minus g t = prefix_typed prefix.Minus g t
+unary_typed unary.Not g t = prefix_typed prefix.Not g t
+unary_typed unary.Complement g t = prefix_typed prefix.Complement g t
+unary_typed unary.Deref g t = deref_typed g t
 
 abbrev pub unary_rule : UnaryOperator → Typed → Result Typed CKind
 unary_rule op x = unary_typed op x.gives x.tree
@@ -91,23 +97,38 @@ numbers binary.Multiply a b = expr.Binary operator.Multiply a b
 numbers binary.Divide a b = expr.Binary operator.Divide a b
 numbers binary.Remainder a b = expr.Binary operator.Remainder a b
 
+-- Which way an operator moves a pointer, if it does: up for "+".
+abbrev pub direction : BinaryOperator → Option Bool
+direction binary.Add = Some true
+direction binary.Subtract = Some false
+direction _ = None
+
 -- A pointer and a number after it: "+" and "-" move it.
-abbrev pub pointer_first : BinaryOperator → Element → Bool → CheckedExpr → CheckedExpr → Result Typed CKind
-pointer_first binary.Add w c a b = typed (type.Pointer w c) (expr.Advance w a b)
-pointer_first binary.Subtract w c a b = typed (type.Pointer w c) (expr.Retreat w a b)
-pointer_first _ w c a b = wrong
+abbrev pub moved : Option Bool → Element → Bool → CheckedExpr → CheckedExpr → Result Typed CKind
+moved (Some true) w c a b = typed (type.Pointer w c) (expr.Advance w a b)
+moved (Some false) w c a b = typed (type.Pointer w c) (expr.Retreat w a b)
+moved None w c a b = wrong
+
+abbrev pub pointer_first : BinaryOperator → Element → Bool → CType → CheckedExpr → CheckedExpr → Result Typed CKind
+pointer_first op w c type.Int a b = moved (direction op) w c a b
+pointer_first op w c _ a b = wrong
 
 -- A number and a pointer after it: "+" moves it.
-abbrev pub pointer_second : BinaryOperator → Element → Bool → CheckedExpr → CheckedExpr → Result Typed CKind
-pointer_second binary.Add w c a b = typed (type.Pointer w c) (expr.AdvanceBy w a b)
-pointer_second _ w c a b = wrong
+abbrev pub moved_by : Option Bool → Element → Bool → CheckedExpr → CheckedExpr → Result Typed CKind
+moved_by (Some true) w c a b = typed (type.Pointer w c) (expr.AdvanceBy w a b)
+moved_by (Some false) w c a b = wrong
+moved_by None w c a b = wrong
+
+abbrev pub number_first : BinaryOperator → CType → CheckedExpr → CheckedExpr → Result Typed CKind
+number_first op type.Int a b = typed type.Int (numbers op a b)
+number_first op (type.Pointer w c) a b = moved_by (direction op) w c a b
+number_first op _ a b = wrong
 
 -- All operators take two numbers (C11 6.5.5 to 6.5.14).
 abbrev pub binary_typed : BinaryOperator → CType → CType → CheckedExpr → CheckedExpr → Result Typed CKind
-binary_typed op type.Int type.Int a b = typed type.Int (numbers op a b)
-binary_typed op (type.Pointer w c) type.Int a b = pointer_first op w c a b
-binary_typed op type.Int (type.Pointer w c) a b = pointer_second op w c a b
-binary_typed op _ _ a b = wrong
+binary_typed op type.Int h a b = number_first op h a b
+binary_typed op (type.Pointer w c) h a b = pointer_first op w c h a b
+binary_typed op _ h a b = wrong
 
 abbrev pub binary_rule : BinaryOperator → Typed → Typed → Result Typed CKind
 binary_rule op x y = binary_typed op x.gives y.gives x.tree y.tree
@@ -155,16 +176,20 @@ abbrev pub address_rule : Typed → Typed → Result Typed CKind
 address_rule x i = address_typed (pointed x.gives i.gives) x.tree i.tree
 
 -- A number may be cast to a number, to a char or to a pointer (C11 6.5.4).
-abbrev pub cast_to : Base → Bool → CheckedExpr → Result Typed CKind
-cast_to base.Int false t = typed type.Int (expr.Convert convert.ToInt t)
-cast_to base.Char false t = typed type.Int (expr.Convert convert.ToChar t)
-cast_to base.ConstChar false t = wrong
-cast_to base.Int true t = typed (type.Pointer element.Int false) (expr.Convert convert.ToPointer t)
-cast_to base.Char true t = typed (type.Pointer element.Char false) (expr.Convert convert.ToPointer t)
-cast_to base.ConstChar true t = typed (type.Pointer element.Char true) (expr.Convert convert.ToPointer t)
+abbrev pub conversion : Base → Bool → Option (CType × Conversion)
+conversion base.Int false = Some (type.Int, convert.ToInt)
+conversion base.Char false = Some (type.Int, convert.ToChar)
+conversion base.ConstChar false = None
+conversion base.Int true = Some (type.Pointer element.Int false, convert.ToPointer)
+conversion base.Char true = Some (type.Pointer element.Char false, convert.ToPointer)
+conversion base.ConstChar true = Some (type.Pointer element.Char true, convert.ToPointer)
+
+abbrev pub converted : Option (CType × Conversion) → CheckedExpr → Result Typed CKind
+converted (Some p) t = typed p.0 (expr.Convert p.1 t)
+converted None t = wrong
 
 abbrev pub cast_typed : Base → Bool → CType → CheckedExpr → Result Typed CKind
-cast_typed b star type.Int t = cast_to b star t
+cast_typed b star type.Int t = converted (conversion b star) t
 cast_typed b star _ t = wrong
 
 abbrev pub cast_rule : Base → Bool → Typed → Result Typed CKind
@@ -200,11 +225,14 @@ moves operator.Add = true
 moves operator.Subtract = true
 moves _ = false
 
+abbrev pub compounds_number : IntOperator → Scalar → Bool
+compounds_number op scalar.Int = true
+compounds_number op scalar.Char = true
+compounds_number op (scalar.Pointer w) = moves op
+
 abbrev pub compounds : IntOperator → Scalar → CType → Bool
-compounds op scalar.Int type.Int = true
-compounds op scalar.Char type.Int = true
-compounds op (scalar.Pointer w) type.Int = moves op
-compounds op _ _ = false
+compounds op s type.Int = compounds_number op s
+compounds op s _ = false
 
 -- An assignment to a variable.
 abbrev pub cell_assign : Option IntOperator → Cell → Held → Typed → Result Typed CKind
@@ -212,10 +240,13 @@ cell_assign None x h e = if takes (type_of h) e.gives then typed (type_of h) (ex
 cell_assign (Some op) x h e = if compounds op h.scalar e.gives then typed (type_of h) (expr.Compound op h.scalar x e.tree) else wrong
 
 -- An assignment to an element, which is a number.
+abbrev pub element_set : Option IntOperator → Element → CheckedPlace → CheckedExpr → CheckedExpr
+element_set None w p e = expr.AssignElement w p e
+element_set (Some op) w p e = expr.CompoundElement op w p e
+
 abbrev pub element_assign : Option IntOperator → Element → CheckedPlace → CType → CheckedExpr → Result Typed CKind
-element_assign None w p type.Int e = typed type.Int (expr.AssignElement w p e)
-element_assign (Some op) w p type.Int e = typed type.Int (expr.CompoundElement op w p e)
-element_assign _ w p _ e = wrong
+element_assign op w p type.Int e = typed type.Int (element_set op w p e)
+element_assign op w p _ e = wrong
 
 -- Nothing is stored where one may only read, nor to an array as a whole (C11 6.5.16).
 abbrev pub assign_rule : AssignOperator → Target → Typed → Result Typed CKind
@@ -250,15 +281,34 @@ abbrev pub file_rule : Function → List Typed → Result Typed CKind
 file_rule f xs = if fits_params f.params xs then typed (returned f.returns) (expr.Call f.place (map (λ x. x.tree) xs)) else wrong
 
 -- What a call of the table takes for a parameter.
+abbrev pub is_number : CType → Bool
+is_number type.Int = true
+is_number _ = false
+
+abbrev pub is_pointer : CType → Bool
+is_pointer (type.Pointer w c) = true
+is_pointer _ = false
+
+abbrev pub is_text : CType → Bool
+is_text (type.Pointer element.Char c) = true
+is_text _ = false
+
+abbrev pub is_written : CType → Bool
+is_written (type.Pointer w false) = true
+is_written _ = false
+
+abbrev pub is_number_written : CType → Bool
+is_number_written (type.Pointer element.Int false) = true
+is_number_written _ = false
+
 abbrev pub kind_takes : Kind → CType → Bool
-kind_takes kind.Word type.Int = true
-kind_takes kind.Len type.Int = true
-kind_takes kind.In (type.Pointer w c) = true
-kind_takes kind.Text (type.Pointer element.Char c) = true
-kind_takes kind.Out (type.Pointer w false) = true
-kind_takes kind.Out4 (type.Pointer element.Int false) = true
-kind_takes kind.Out8 (type.Pointer element.Int false) = true
-kind_takes _ _ = false
+kind_takes kind.Word g = is_number g
+kind_takes kind.Len g = is_number g
+kind_takes kind.In g = is_pointer g
+kind_takes kind.Text g = is_text g
+kind_takes kind.Out g = is_written g
+kind_takes kind.Out4 g = is_number_written g
+kind_takes kind.Out8 g = is_number_written g
 
 abbrev pub all_kinds_take : List Kind → List Typed → Bool
 all_kinds_take ks xs = list_all (λ p. kind_takes p.0 p.1.gives) (zip ks xs)
@@ -273,8 +323,8 @@ starts_thread _ = false
 
 -- That call takes a function's name and a number.
 abbrev pub entry_takes : CType → CType → Bool
-entry_takes type.Entry type.Int = true
-entry_takes _ _ = false
+entry_takes type.Entry g = is_number g
+entry_takes _ g = false
 
 abbrev pub fits_entry : List Typed → Bool
 fits_entry [] = false
@@ -289,14 +339,6 @@ fits_row row xs = if starts_thread row.kernel then fits_entry xs else fits_kinds
 abbrev pub row_rule : CallRow → ℕ → List Typed → Result Typed CKind
 row_rule row k xs = if fits_row row xs then typed (returned row.returns) (expr.Kernel k (map (λ x. x.tree) xs)) else wrong
 
--- The place of a call among those that are used, and these with it.
-abbrev pub with_call : Option ℕ → ℕ → List ℕ → ℕ × List ℕ
-with_call (Some k) row calls = (k, calls)
-with_call None row calls = (length calls, calls ++ row ∷ [])
-
-abbrev pub enter : ℕ → List ℕ → ℕ × List ℕ
-enter row calls = with_call (position (λ c. c == row) calls) row calls
-
 -- The function that a thread starts with has one parameter, an int, and returns an int.
 abbrev pub is_int : Scalar → Bool
 is_int scalar.Int = true
@@ -310,14 +352,3 @@ is_one_int (h ∷ g ∷ hs) = false
 
 abbrev pub entry_function : Function → Result Typed CKind
 entry_function f = if f.returns && is_one_int f.params then typed type.Entry (expr.Function f.place) else wrong
-
--- A name as that argument: a local hides the function, and a variable of the file is none.
-abbrev pub entry_named : Bool → Option Function → Bool → Result Typed CKind
-entry_named true f global = wrong
-entry_named false (Some f) global = entry_function f
-entry_named false None true = wrong
-entry_named false None false = Err fault.UnknownName
-
-abbrev pub entry_rule : Names → List ℕ → Result Typed CKind
-entry_rule names name =
-    entry_named (is_some (lookup (bytes_eq name) names.locals)) (lookup (bytes_eq name) names.functions) (is_some (lookup (bytes_eq name) names.globals))
