@@ -14,6 +14,7 @@ ghost use Rattle.nx_crules.specs.Rules.{
 
 use crate::taken::{mismatch, takes};
 use crate::types::{CType, Held, Target, Typed, int};
+use nx_checked::{Cell, CheckedExpr, CheckedPlace, Element, IntOperator, Scalar, StepValue};
 use nx_ctok::CFault;
 use nx_ctree::{AssignOperator, StepOperator};
 use nx_shared::Shared;

@@ -12,8 +12,8 @@ ghost use Rattle.nx_crules.specs.Rules.{
 
 use crate::taken::mismatch;
 use crate::types::{CType, Typed, int};
-use nx_ctok::CFault;
 use nx_checked::{CheckedExpr, CheckedPlace, Conversion, Element, IntPrefix};
+use nx_ctok::CFault;
 use nx_ctree::{Base, UnaryOperator};
 use nx_shared::Shared;
 use std::alloc::Global;

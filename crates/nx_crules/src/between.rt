@@ -14,8 +14,8 @@ ghost use Rattle.nx_crules.specs.Rules.{
 
 use crate::taken::{are_one_type, mismatch};
 use crate::types::{CType, Typed, int};
-use nx_ctok::CFault;
 use nx_checked::{CheckedExpr, Element, IntOperator};
+use nx_ctok::CFault;
 use nx_ctree::BinaryOperator;
 use nx_shared::Shared;
 use std::alloc::Global;

@@ -25,8 +25,8 @@ use crate::taken::{mismatch, takes};
 use crate::types::{CType, Function, Held, Typed};
 use nx_base::{KCall, Kind};
 use nx_calls::CallRow;
-use nx_ctok::{CFault, CKind};
 use nx_checked::{CheckedExpr, Element, Scalar};
+use nx_ctok::{CFault, CKind};
 use sqlite_items::Items;
 use std::alloc::{AllocError, Global};
 

@@ -4,8 +4,8 @@ ghost use Rattle.nx_crules.specs.Rules.{pointed as pointed_of, index_rule, addre
 
 use crate::taken::mismatch;
 use crate::types::{CType, Target, Typed, int};
-use nx_ctok::CFault;
 use nx_checked::{CheckedExpr, CheckedPlace, Element};
+use nx_ctok::CFault;
 use nx_shared::Shared;
 use std::alloc::Global;
 

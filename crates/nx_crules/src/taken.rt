@@ -5,8 +5,8 @@ ghost use Rattle.nx_crules.specs.Types.{is_same as is_same_element, takes as tak
 ghost use Rattle.nx_crules.specs.Rules.{are_one_type as are_one_type_of};
 
 use crate::types::CType;
-use nx_ctok::{CFault, CKind};
 use nx_checked::Element;
+use nx_ctok::{CFault, CKind};
 
 /// The fault of an operator that doesn't take its operands.
 pub(crate) fn mismatch(line: u32) -> CFault

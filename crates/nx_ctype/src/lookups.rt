@@ -13,6 +13,7 @@ ghost use Rattle.nx_crules.specs.Answers.{at};
 ghost use Rattle.nx_ctype.specs.Verdicts.{number as number_of};
 
 use crate::names::{Names, Variable};
+use nx_checked::{CheckedExpr, Element, Scalar, Shape};
 use nx_crules::{CType, Target, Typed, entry_function};
 use nx_ctok::{CFault, CKind};
 

@@ -5,8 +5,8 @@ ghost use Rattle.std.specs.Str.{bytes_eq};
 ghost use Rattle.indexmap.specs.IndexMap.{insert_entry};
 
 use indexmap::IndexMap;
-use nx_crules::{Function, Held};
 use nx_checked::{ArrayName, Cell, Shape};
+use nx_crules::{Function, Held};
 use std::alloc::{AllocError, Global};
 use std::marker::Model;
 
