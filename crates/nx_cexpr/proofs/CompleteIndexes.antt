@@ -17,7 +17,8 @@ use Rattle.nx_cexpr.specs.Operands
 use Rattle.nx_cexpr.specs.Operands.{expr_of}
 use Rattle.nx_cexpr.specs.Reading.{element_rest, element_pick, elements, step_pick, level_pick, has_node, within}
 use Rattle.nx_cexpr.proofs.SignLaws.{is_true, stops_at, no_step}
-use Rattle.nx_cexpr.proofs.Laws.{lows, level_at_passes, element_rounds, post_ends}
+use Rattle.nx_cexpr.proofs.Laws.{lows, level_at_passes}
+use Rattle.nx_cexpr.proofs.PrimaryLaws.{element_rounds, post_ends}
 use Rattle.nx_cexpr.proofs.Forms.{element_on}
 use Rattle.nx_cexpr.proofs.CompletePicks.{Closed, stops_close, post_goes, address_read}
 use Rattle.nx_cexpr.proofs.CompleteClaims.{from_node, node_fits, stops_less, Primary, Indexed, Chain, One, Many, Reads}

@@ -22,7 +22,8 @@ use Rattle.nx_cexpr.specs.Operands
 use Rattle.nx_cexpr.specs.Operands.{expr_of, place_of, place_kind}
 use Rattle.nx_cexpr.specs.Reading.{Below, operator_pick, assign_by, level_rest, level_pick, has_node, within}
 use Rattle.nx_cexpr.proofs.SignLaws.{is_true, stops_at}
-use Rattle.nx_cexpr.proofs.Laws.{Lows, lows, operator_rounds}
+use Rattle.nx_cexpr.proofs.PrimaryLaws.{Lows}
+use Rattle.nx_cexpr.proofs.Laws.{lows, operator_rounds}
 use Rattle.nx_cexpr.proofs.Forms.{right_on, conditional_on, assign_on}
 use Rattle.nx_cexpr.proofs.Levels.{level_step, level_up, rest_is_loop, chain_on}
 use Rattle.nx_cexpr.proofs.CompleteClaims.{from_node, node_fits, stops_less, Reads, Placed}

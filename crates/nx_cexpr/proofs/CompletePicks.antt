@@ -24,7 +24,7 @@ use Rattle.nx_cexpr.specs.Types.{begins_base, base_pick, base_at}
 use Rattle.nx_cexpr.specs.Operands
 use Rattle.nx_cexpr.specs.Reading.{Below, arguments_rest, call_rest, name_rest, primary_pick, element_rest, elements, step_pick, post_element, post, place_rest, place_element, place_call, place_name, place_pick, unary_rest, address_rest, before_rest, cast_rest, group_rest, group, size_of_name_rest, size_of_type_rest, size_of_pick, size_of_rest, prefix_pick, level_pick}
 use Rattle.nx_cexpr.proofs.SignLaws.{is_true, differs, other_rank}
-use Rattle.nx_cexpr.proofs.Laws.{Lows, primary_passes, base_passes}
+use Rattle.nx_cexpr.proofs.PrimaryLaws.{Lows, primary_passes, base_passes}
 use Rattle.nx_cexpr.proofs.Forms.{base_complete, star_complete, paren_on, indexed_on, place_call_on, deref_on, unary_on, address_on, before_on, cast_on, group_on, size_name_on, size_type_on}
 use Rattle.nx_cexpr.proofs.CompleteStarts.{Starts, no_base, no_close, base_begins, base_no_name}
 

@@ -17,7 +17,8 @@ use Rattle.nx_cexpr.specs.Operands
 use Rattle.nx_cexpr.specs.Operands.{expr_of}
 use Rattle.nx_cexpr.specs.Reading.{Below, comma_pick, next_rest, call_rest, primary_pick, place_rest, place_pick, level_pick, has_node, within}
 use Rattle.nx_cexpr.proofs.SignLaws.{Is, is_true, stops_at, other_rank}
-use Rattle.nx_cexpr.proofs.Laws.{lows, level_at_passes, comma_rounds}
+use Rattle.nx_cexpr.proofs.Laws.{lows, level_at_passes}
+use Rattle.nx_cexpr.proofs.PrimaryLaws.{comma_rounds}
 use Rattle.nx_cexpr.proofs.Forms.{next_on, arguments_on}
 use Rattle.nx_cexpr.proofs.CompleteStarts.{Starts}
 use Rattle.nx_cexpr.proofs.CompletePicks.{primary_on, post_on, name_on, called_on, call_none_on, call_some_on, group_expr_on, group_read, paren_read, place_name_on, name_index_on, name_call_on, place_value_on}

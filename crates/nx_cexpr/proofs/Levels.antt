@@ -1,20 +1,20 @@
 -- From one level of expressions to the next.
-use Rattle.std.proofs.Common.{◌≡◌, ℕ, suc, ◌<◌, ◌≤◌, Bool, true, false, List, ◌∷◌, refl, sym, ap, ◌∙◌, arith, subst}
+use Rattle.std.proofs.Common.{◌≡◌, ℕ, suc, ◌<◌, Bool, true, false, List, ◌∷◌, refl, ap, ◌∙◌, arith, subst}
 use Rattle.std.specs.Prelude.{Ok, Some, if◌then◌else◌, ◌==◌}
 use Rattle.std.proofs.lemmas.Bool.{eqb-true, ne_eqb, lt-ltb}
 use Rattle.nx_ctree.specs.declared.sign.Signed.{Signed}
 use Rattle.nx_ctree.specs.declared.expression.BinaryOperator.{BinaryOperator}
 use Rattle.nx_ctree.specs.Expressions.{binary_of}
-use Rattle.nx_grammar.specs.Reading.{Take, dispatch, bind, loop}
+use Rattle.nx_grammar.specs.Reading.{dispatch, bind, loop}
 use Rattle.nx_grammar.specs.Lawful.{Heads}
 use Rattle.nx_grammar.proofs.Loops.{shorter, loop_takes}
 use Rattle.nx_grammar.proofs.LoopLaws.{loop_stops}
 use Rattle.nx_cexpr.specs.declared.operand.Operand.{Operand}
-use Rattle.nx_cexpr.specs.Signs.{Stops, operator_at}
+use Rattle.nx_cexpr.specs.Signs.{Stops}
 use Rattle.nx_cexpr.specs.Reading.{Below, right_rest, operator_by, operator_pick, conditional_pick, assign_pick, level_rest, level_pick}
 use Rattle.nx_cexpr.proofs.SignLaws.{operator_on}
 use Rattle.nx_cexpr.proofs.Laws
-use Rattle.nx_cexpr.proofs.Laws.{Lows}
+use Rattle.nx_cexpr.proofs.PrimaryLaws.{Lows}
 
 module _ (low : Below) (fits : Bool) (law : Lows low fits) (d : ℕ) where
   -- What was read of a level goes on as one of the next.

@@ -1,7 +1,10 @@
 pub mod SignLaws
+pub mod PrimaryLaws
 pub mod Laws
+pub mod PrimarySound
 pub mod Sound
 pub mod Spared
+pub mod PrimaryGrowth
 pub mod Growth
 pub mod Forms
 pub mod Levels
@@ -15,3 +18,5 @@ pub mod CompleteUnary
 pub mod CompleteLevels
 pub mod Complete
 pub mod CompleteReads
+pub mod Steps
+pub mod Chains

@@ -27,7 +27,8 @@ use Rattle.nx_cexpr.specs.Types.{begins_base, const_rest, base_by, base_pick, st
 use Rattle.nx_cexpr.specs.Operands
 use Rattle.nx_cexpr.specs.Reading.{Below, next_rest, comma_pick, arguments_rest, call_pick, call_rest, name_pick, name_rest, paren_rest, primary_pick, element_rest, element_pick, elements, indexed, step_by, step_pick, post_element, post_pick, post, place_rest, place_element, place_call, place_name_pick, place_name, deref_rest, place_pick, unary_rest, address_rest, before_rest, cast_rest, group_rest, group_pick, group, size_of_name_rest, size_of_type_rest, size_of_pick, size_of_rest, prefix_pick, right_rest, operator_by, operator_pick, conditional_rest, conditional_pick, assign_rest, assign_by, assign_pick, level_rest, level_pick, has_node, within, expr_pick}
 use Rattle.nx_cexpr.proofs.SignLaws.{Is, true_is, sign_spares}
-use Rattle.nx_cexpr.proofs.Laws.{Lows, lows, comma_rounds, element_rounds, operator_rounds}
+use Rattle.nx_cexpr.proofs.PrimaryLaws.{Lows, comma_rounds, element_rounds}
+use Rattle.nx_cexpr.proofs.Laws.{lows, operator_rounds}
 
 abbrev E : Signed → Type 0
 E = Is sign.End

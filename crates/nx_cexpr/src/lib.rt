@@ -7,6 +7,7 @@ mod reading;
 mod signs;
 mod stop;
 mod tokens;
+mod trees;
 mod types;
 
 pub use operand::Tall;

@@ -37,7 +37,7 @@ use Rattle.nx_ctree.specs.Programs.{first_line, type_word, IsConstant, AreConsta
 use Rattle.nx_cexpr.specs.Signs.{is_sign}
 use Rattle.nx_cexpr.specs.Types.{base_by, base_pick, begins_base, const_rest}
 use Rattle.nx_cexpr.specs.Reading.{has_node}
-use Rattle.nx_cexpr.proofs.Laws.{base_passes}
+use Rattle.nx_cexpr.proofs.PrimaryLaws.{base_passes}
 use Rattle.nx_cstmt.specs.Lists.{more_pick, is_over}
 use Rattle.nx_cstmt.specs.Reading.{stmt_pick}
 use Rattle.nx_cstmt.proofs.Signs.{Is, signed, not_signed}

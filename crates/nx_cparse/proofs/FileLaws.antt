@@ -25,7 +25,7 @@ use Rattle.nx_ctree.specs.declared.program.External.{External}
 use Rattle.nx_ctree.specs.Programs.{type_word}
 use Rattle.nx_cexpr.specs.Signs.{is_sign}
 use Rattle.nx_cexpr.specs.Types.{base_pick, begins_base}
-use Rattle.nx_cexpr.proofs.Laws.{took, base_takes}
+use Rattle.nx_cexpr.proofs.PrimaryLaws.{took, base_takes}
 use Rattle.nx_cexpr.specs.Reading.{has_node}
 use Rattle.nx_cstmt.specs.Lists.{more_pick}
 use Rattle.nx_cstmt.specs.Reading.{sign_at, stmt_pick, stmts_at}

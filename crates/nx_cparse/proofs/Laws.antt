@@ -22,7 +22,7 @@ use Rattle.nx_ctree.specs.declared.program.Initialiser.TheVariants as init
 use Rattle.nx_ctree.specs.declared.program.Rest.TheVariants as form
 use Rattle.nx_cexpr.specs.Signs.{is_sign}
 use Rattle.nx_cexpr.specs.Types.{base_pick}
-use Rattle.nx_cexpr.proofs.Laws.{took, base_takes}
+use Rattle.nx_cexpr.proofs.PrimaryLaws.{took, base_takes}
 use Rattle.nx_cstmt.specs.Reading.{sign_at}
 use Rattle.nx_cstmt.proofs.Signs.{Is, bare, not_signed, sign_law}
 use Rattle.nx_cparse.specs.Commas.{others, commas}

@@ -33,7 +33,7 @@ use Rattle.nx_ctree.specs.Programs as grammar
 use Rattle.nx_ctree.specs.Programs.{type_word, IsConstant, AreConstants, IsLength, IsInitialiser, IsParam, AreParams, IsParams, IsItemRest, IsItem, AreItems, AreDecls, IsFunction, IsContents, IsRest, IsStatic, AreExternals, IsUnit}
 use Rattle.nx_cexpr.specs.Signs.{is_sign}
 use Rattle.nx_cexpr.specs.Types.{base_pick}
-use Rattle.nx_cexpr.proofs.Sound.{base_found}
+use Rattle.nx_cexpr.proofs.PrimarySound.{base_found}
 use Rattle.nx_cexpr.specs.Reading.{has_node}
 use Rattle.nx_cstmt.specs.Lists.{more_pick}
 use Rattle.nx_cstmt.specs.Reading.{sign_at, stmt_pick, stmts_at}

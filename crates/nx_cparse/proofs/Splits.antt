@@ -9,7 +9,7 @@ use Rattle.nx_ctree.specs.declared.program.Params.TheVariants as params
 use Rattle.nx_ctree.specs.declared.statement.ItemKind.{ItemKind}
 use Rattle.nx_ctree.specs.Programs.{first_line}
 use Rattle.nx_cexpr.specs.Types.{base_pick, base_at}
-use Rattle.nx_cexpr.proofs.Laws.{base_passes}
+use Rattle.nx_cexpr.proofs.PrimaryLaws.{base_passes}
 use Rattle.nx_cstmt.proofs.Lists.{then_on}
 use Rattle.nx_cparse.specs.Commas.{commas}
 use Rattle.nx_cparse.specs.Reading.{name_pick, param_rest, param_pick, param_at, params_rest, value_rest, value_pick, item_rest, item_at, decl_rest, decl_pick}
