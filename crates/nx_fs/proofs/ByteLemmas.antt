@@ -1,7 +1,7 @@
 -- Bytes that are written into a file, or read from it.
-use Rattle.std.proofs.Common.{◌≡◌, ℕ, zero, suc, ◌+◌, ◌-◌, ◌<◌, ◌≤◌, List, [], ◌∷◌, ◌++◌, length, take, drop, refl, sym, ap, ◌∙◌, arith, rules, replicate, append-nil, min, Bool, true, false}
-use Rattle.std.specs.Prelude.{Result, Ok, Err, ◌==◌, nat_le}
-use Rattle.std.proofs.lemmas.List.{length-append, length-replicate, length-take-le, take-append-drop, take_at, length-drop}
+use Rattle.std.proofs.Common.{◌≡◌, ℕ, zero, suc, ◌+◌, ◌-◌, ◌<◌, ◌≤◌, List, [], ◌∷◌, ◌++◌, length, take, drop, refl, sym, ap, ◌∙◌, arith, rules, replicate, append-nil, min, true, false}
+use Rattle.std.specs.Prelude.{Ok, Err, ◌==◌, nat_le}
+use Rattle.std.proofs.lemmas.List.{length-replicate, length-take-le, take-append-drop, take_at, length-drop}
 use Rattle.nx_base.specs.ByteLists.{put_bytes, get_bytes}
 use Rattle.nx_base.proofs.ByteLemmas.{get_bytes-between}
 use Rattle.nx_base.specs.declared.errno.Errno.TheVariants.{Efbig, Enospc}
@@ -10,7 +10,6 @@ use Rattle.nx_pool.specs.Effects.{Becomes}
 use Rattle.nx_pool.proofs.EffectLemmas.{Becomes-refl, Becomes-trans, Becomes-eq}
 use Rattle.nx_pool.proofs.PayloadLemmas.{drop-past, length-get_bytes}
 use Rattle.nx_ksys.specs.FileCalls.{longest_file, reach, with_written, written_at}
-use Rattle.nx_fs.specs.declared.bytes.Moved.{Moved}
 use Rattle.nx_fs.specs.Rows.{as_written}
 
 take_zeros : (at m : ℕ) → at ≤ m → take {A = ℕ} at (replicate m 0) ≡ replicate {A = ℕ} at 0

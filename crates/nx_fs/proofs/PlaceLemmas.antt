@@ -1,21 +1,21 @@
 -- Files by place, of which one changes, and the rows of the calls on them.
-use Rattle.std.proofs.Common.{◌≡◌, ℕ, zero, suc, ◌+◌, ◌<◌, ◌≤◌, List, [], ◌∷◌, ◌++◌, length, map, take, drop, refl, sym, ap, ◌∙◌, subst, arith, get_or, cond, replicate, add-one}
-use Rattle.std.specs.Prelude.{slice_get, slice_set, flat_map, Option, Some, None, Result, Ok, Err, IfErr, fold}
+use Rattle.std.proofs.Common.{◌≡◌, ℕ, zero, suc, ◌+◌, ◌<◌, List, [], ◌∷◌, ◌++◌, length, map, take, drop, refl, sym, ap, ◌∙◌, subst, arith, get_or, cond, replicate, add-one}
+use Rattle.std.specs.Prelude.{slice_get, slice_set, Option, Some, None, Result, Ok, Err, IfErr, fold}
 use Rattle.std.specs.List.{position_from, count_by}
 use Rattle.std.specs.Option.{is_some, is_none}
 use Rattle.std.proofs.lemmas.List.Sums.{count_by_more_yes, count_by_more_no}
 use Rattle.nx_pool.specs.declared.chain.Chain.{Chain}
 use Rattle.nx_pool.specs.Effects.{IsHeld, Becomes, Comes, Goes}
-use Rattle.nx_pool.specs.Moves.{AreHeld, Moves}
-use Rattle.nx_pool.specs.Chains.{length_of, total_blocks}
+use Rattle.nx_pool.specs.Moves.{AreHeld}
+use Rattle.nx_pool.specs.Chains.{total_blocks}
 use Rattle.nx_pool.proofs.Holders.{Step, step_set, place_held, one_is_held, Moves-becomes, Moves-comes, Moves-goes}
 use Rattle.nx_base.specs.declared.errno.Errno.{Errno}
 use Rattle.nx_base.specs.declared.errno.Errno.TheVariants.{Ebadf}
 use Rattle.nx_ksys.specs.declared.node.Open.{Open}
 use Rattle.nx_ksys.specs.Threads.{flat}
 use Rattle.nx_ksys.specs.State.{KernelState, free_blocks, file_blocks}
-use Rattle.nx_ksys.specs.Answers.{Caller, Stepped, replied, failed}
-use Rattle.nx_ksys.specs.FileCalls.{written_at, write_place, write_file, file_written, with_open, with_file, read_file}
+use Rattle.nx_ksys.specs.Answers.{Caller, replied, failed}
+use Rattle.nx_ksys.specs.FileCalls.{written_at, write_place, write_file, file_written, with_open, read_file}
 use Rattle.nx_fs.specs.declared.bytes.Moved.{Moved}
 use Rattle.nx_fs.specs.Chains.{chains_in, chains_of, bytes_in, files_of, AreSized}
 use Rattle.nx_fs.specs.Rows.{with_files, opened_at, as_written, write_told, read_told}

@@ -1,9 +1,7 @@
 -- Files by place, as their chains.
-use Rattle.std.specs.Prelude.{ℕ, ◌≡◌, List, [], ◌∷◌, length, map, flat_map, Option, Some, None, Result, Ok, Err}
-use Rattle.nx_base.specs.declared.errno.Errno.{Errno}
+use Rattle.std.specs.Prelude.{ℕ, ◌≡◌, List, [], ◌∷◌, length, map, flat_map, Option, Some, None}
 use Rattle.nx_pool.specs.declared.chain.Chain.{Chain}
 use Rattle.nx_pool.specs.Chains.{length_of}
-use Rattle.nx_ksys.specs.FileCalls.{Written}
 
 abbrev pub chains_in : Option Chain → List Chain
 chains_in None = []

@@ -1,5 +1,5 @@
 -- What a call is told of a file, as the state and the replies that it leaves.
-use Rattle.std.specs.Prelude.{ℕ, ◌+◌, List, [], ◌∷◌, length, take, Option, Some, None, Result, Ok, Err}
+use Rattle.std.specs.Prelude.{ℕ, ◌+◌, List, [], ◌∷◌, take, Option, Result, Ok, Err}
 use Rattle.nx_base.specs.declared.errno.Errno.{Errno}
 use Rattle.nx_ksys.specs.declared.node.Open.{Open}
 use Rattle.nx_ksys.specs.State.{KernelState}

@@ -1,4 +1,4 @@
-use Rattle.std.proofs.Common.{◌∙◌, ◌-◌, ap, sym, arith, min, length}
+use Rattle.std.proofs.Common.{arith}
 use Rattle.nx_fs.proofs.ByteLemmas.{read_front}
 use Rattle.nx_fs.proofs.bytes.read_chain.Goals as goal
 

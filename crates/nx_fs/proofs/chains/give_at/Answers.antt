@@ -1,5 +1,5 @@
 use Rattle.std.proofs.Common.{◌∙◌, sym}
-use Rattle.std.specs.Prelude.{Some, None}
+use Rattle.std.specs.Prelude.{None}
 use Rattle.nx_fs.proofs.PlaceLemmas.{get_some, chain_held, step_go, set_files, get_set}
 use Rattle.nx_fs.proofs.chains.give_at.Goals as goal
 

@@ -1,4 +1,4 @@
-use Rattle.std.proofs.Common.{◌∙◌, ap, sym, arith, length, ◌<◌}
+use Rattle.std.proofs.Common.{ap, arith, length, ◌<◌}
 use Rattle.std.specs.Prelude.{Some, None}
 use Rattle.std.proofs.lemmas.List.{set-get_or}
 use Rattle.nx_ksys.specs.Threads.{flat}
