@@ -1,10 +1,10 @@
 -- Entries by index, and what of them a loop has seen.
-use Rattle.std.proofs.Common.{◌≡◌, ℕ, zero, suc, ◌+◌, ◌<◌, ◌≤◌, List, [], ◌∷◌, ◌++◌, length, map, take, drop, get_or, refl, sym, ap, ◌∙◌, subst, arith, rules, Bool, true, false, cond, not, add-one, filter, append-nil, if◌then◌else◌}
+use Rattle.std.proofs.Common.{◌≡◌, ℕ, zero, suc, ◌+◌, ◌-◌, ◌<◌, ◌≤◌, List, [], ◌∷◌, ◌++◌, length, map, take, drop, get_or, refl, sym, ap, ◌∙◌, subst, arith, rules, Bool, true, false, cond, not, add-one, filter, append_assoc, append-nil, if◌then◌else◌}
 use Rattle.std.specs.Prelude.{Option, Some, None, slice_get, option_map, ◌||◌, ◌==◌}
 use Rattle.std.specs.List.{IsDistinct, AllByRecursion, list_any, count_by}
 use Rattle.std.specs.Map.{lookup, keys_of}
 use Rattle.std.specs.Str.{bytes_eq}
-use Rattle.std.proofs.lemmas.List.{length-map, length-append}
+use Rattle.std.proofs.lemmas.List.{length-map, length-append, drop_at}
 use Rattle.std.proofs.lemmas.List.Sums.{count_by_more_yes, count_by_more_no}
 use Rattle.std.proofs.lemmas.Slice.Eq.{bytes_eq-Decides}
 use Rattle.std.proofs.lemmas.Bool.{false_from_ne_true}
@@ -167,3 +167,22 @@ counted_part (b ∷ bs) n part e = by_byte (b == 47) (counted_part bs 0 [] refl)
 
 pub last_is_counted : (path : List ℕ) → last_count 0 path ≡ length (last_part [] path)
 last_is_counted path = sym (counted_part path 0 [] refl)
+
+-- the last part stands at the end
+ends_with : (bs part : List ℕ) → (front : List ℕ) × (part ++ bs ≡ front ++ last_part part bs)
+ends_with [] part = ([], append-nil part)
+ends_with (b ∷ bs) part = by_byte (b == 47) (ends_with bs []) (ends_with bs (part ++ b ∷ []))
+  where
+    by_byte : (slash : Bool) → (front : List ℕ) × ([] ++ bs ≡ front ++ last_part [] bs) → (front : List ℕ) × ((part ++ b ∷ []) ++ bs ≡ front ++ last_part (part ++ b ∷ []) bs)
+        → (front : List ℕ) × (part ++ b ∷ bs ≡ front ++ (if slash then last_part [] bs else last_part (part ++ b ∷ []) bs))
+    by_byte true x y = (part ++ b ∷ x.0, ap (λ q. part ++ b ∷ q) x.1 ∙ sym (append_assoc part (b ∷ x.0) (last_part [] bs)))
+    by_byte false x y = (y.0, sym (append_assoc part (b ∷ []) bs) ∙ y.1)
+
+pub last_is_dropped : (path : List ℕ) (n : ℕ) → n ≡ length path - length (last_part [] path) → drop n path ≡ last_part [] path
+last_is_dropped path n e =
+    let f = ends_with path [] in
+    let front = f.0 in
+    let last = last_part [] path in
+    let long : length path ≡ length front + length last = ap length f.1 ∙ length-append front last in
+    let at : length front ≡ n = omega arith in
+    ap (drop n) f.1 ∙ drop_at front last n at

@@ -9,6 +9,7 @@ mod opening;
 mod rename;
 mod tree;
 
+pub use lookups::{last_name, shown};
 pub use normal::{Path, normal_path};
 pub use opening::Opening;
 pub use tree::Tree;

@@ -5,7 +5,7 @@ ghost use Rattle.std.specs.Option.{is_some};
 ghost use Rattle.indexmap.specs.IndexMap.{index_map_len};
 ghost use Rattle.nx_base.specs.declared.errno.Errno.{Errno};
 ghost use Rattle.nx_ksys.specs.declared.node.Node.{Node};
-ghost use Rattle.nx_ksys.specs.Paths.{directory_fault, kind_of, node_at, or_else, prefix_fault, is_cut, is_in, last_part, parent_of, name_in, child_name, name_before, counts_before, before, nth_step, nth_name, has_children, is_closed};
+ghost use Rattle.nx_ksys.specs.Paths.{directory_fault, kind_of, node_at, or_else, prefix_fault, is_cut, is_in, last_part, parent_of, name_in, child_name, name_before, counts_before, before, nth_step, nth_name, has_children, is_closed, shown as shown_path};
 ghost use Rattle.nx_ksys.specs.TreeCalls.{listed_name};
 ghost use Rattle.nx_path.specs.Entries.{seen, IsListed};
 ghost use Rattle.nx_path.specs.Walks.{last_count};
@@ -255,6 +255,23 @@ pub fn parent(path: &[u8]) -> &[u8]
         .saturating_sub(last_length(path))
         .saturating_sub(1);
     &path[..end]
+}
+
+/// The last part of a path; of the root it is empty.
+pub fn last_name(path: &[u8]) -> &[u8]
+    ensures { result.now ≡ last_part [] path.now }
+{
+    &path[path.len() - last_length(path)..]
+}
+
+/// A directory's path as a program sees it: the root has a slash.
+pub fn shown(path: &[u8]) -> &[u8]
+    ensures { result.now ≡ shown_path path.now }
+{
+    match path {
+        [] => b"/".as_slice(),
+        [_, ..] => path,
+    }
 }
 
 /// Whether programs make nothing in a directory.
