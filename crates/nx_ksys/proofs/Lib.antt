@@ -17,3 +17,11 @@ pub mod StartRows
 pub mod ThreadRows
 pub mod Steps
 pub mod Choices
+pub mod ByteWalks
+pub mod PathBytes
+pub mod Saying
+pub mod FileBytes
+pub mod TreeBytes
+pub mod EndBytes
+pub mod ThreadBytes
+pub mod Spoken

@@ -166,7 +166,7 @@ pub record IsFoundAt {A : Type 0} (test : Option A → Bool) (xs : List (Option 
   pub passes : test (Some x) ≡ true
   pub position : position_from test 0 xs ≡ Some place
 
-flat_some : {A : Type 0} (o : Option (Option A)) (x : A) → flat o ≡ Some x → o ≡ Some (Some x)
+pub flat_some : {A : Type 0} (o : Option (Option A)) (x : A) → flat o ≡ Some x → o ≡ Some (Some x)
 flat_some None x h = absurd (none_some x h)
 flat_some (Some o) x h = ap Some h
 

@@ -141,12 +141,12 @@ module _ (ts : List (Option Thread)) (gs hs : List (Option Group)) (num slot : �
 
 -- ---- boot
 
-nothing_more : {A : Type 0} (n p : ℕ) (x : A) → Stands (replicate {A = Option A} n None) p x → ⊥
+pub nothing_more : {A : Type 0} (n p : ℕ) (x : A) → Stands (replicate {A = Option A} n None) p x → ⊥
 nothing_more zero p x h = none_some (Some x) h
 nothing_more (suc n) zero x h = none_some x (some_same None (Some x) h)
 nothing_more (suc n) (suc p) x h = nothing_more n p x h
 
-first_alone : {A : Type 0} (x y : A) (n p : ℕ) → Stands (with_places (Some x ∷ []) n) p y → (p ≡ 0) × (y ≡ x)
+pub first_alone : {A : Type 0} (x y : A) (n p : ℕ) → Stands (with_places (Some x ∷ []) n) p y → (p ≡ 0) × (y ≡ x)
 first_alone x y n zero h = (refl, sym (some_same x y (some_same (Some x) (Some y) h)))
 first_alone x y n (suc p) h = absurd (nothing_more n p y h)
 

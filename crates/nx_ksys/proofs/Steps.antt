@@ -65,7 +65,7 @@ takes_name (a ∷ b ∷ c ∷ d ∷ words) le = λ o fits. (fits, (refl, tt))
 
 -- ---- each row
 
-abbrev caller : Thread → ℕ → Group → Option KCall → List ℕ → Caller
+abbrev pub caller : Thread → ℕ → Group → Option KCall → List ℕ → Caller
 caller t place g which words = record { thread = t; place = place; group = g; asked = meant_call which words }
 
 -- the table in which the caller waits in its call, or is gone
@@ -111,17 +111,17 @@ module _ (k : KernelState) (t : Thread) (place : ℕ) (g : Group) (x : ThreadRow
 -- ---- who calls
 
 -- a thread of a number, with its slot, its place and its group
-record Found (k : KernelState) (i : ℕ) (t : Thread) : Type 0 where
-  slot : ℕ
-  place : ℕ
-  group : Group
-  stands : Stands k.sched.threads slot t
-  lives : Stands k.groups place group
-  member : t.group ≡ group.number
-  number : t.number ≡ i
-  placed : place_of k.groups t.group ≡ Some place
+pub record Found (k : KernelState) (i : ℕ) (t : Thread) : Type 0 where
+  pub slot : ℕ
+  pub place : ℕ
+  pub group : Group
+  pub stands : Stands k.sched.threads slot t
+  pub lives : Stands k.groups place group
+  pub member : t.group ≡ group.number
+  pub number : t.number ≡ i
+  pub placed : place_of k.groups t.group ≡ Some place
 
-found : (k : KernelState) (i : ℕ) (t : Thread) → IsSound k → thread_of k.sched.threads i ≡ Some t → Found k i t
+pub found : (k : KernelState) (i : ℕ) (t : Thread) → IsSound k → thread_of k.sched.threads i ≡ Some t → Found k i t
 unfolding thread_of
 found k i t sound e =
     let f = found_at (is_numbered i) k.sched.threads t e in
@@ -137,22 +137,22 @@ found k i t sound e =
       placed = ap (place_of k.groups) s.member ∙ (group_only k.sched.threads k.groups k.numbers s.place s.group sound s.lives).1;
     }
 
-module _ (k : KernelState) (i : ℕ) (which : Option KCall) (words : List ℕ) (inputs : List (List ℕ)) (sound : IsSound k) (le : length (kinds_in which) ≤ length words) where
-  step_is : (t : Thread) → thread_of k.sched.threads i ≡ Some t → (f : Found k i t) → step k i which words inputs ≡ asked which (counted k) (caller t f.place f.group which words) words inputs
-  unfolding step
-  step_is t e f =
-      ap (λ o. called (counted k) o which words inputs) e
-      ∙ ap (λ o. called_by (counted k) t which words inputs o) f.placed
-      ∙ ap (λ o. called_in (counted k) t which words inputs f.place (flat o)) f.lives
+pub step_is : (k : KernelState) (i : ℕ) (which : Option KCall) (words : List ℕ) (inputs : List (List ℕ)) (t : Thread) → thread_of k.sched.threads i ≡ Some t → (f : Found k i t) → step k i which words inputs ≡ asked which (counted k) (caller t f.place f.group which words) words inputs
+unfolding step
+step_is k i which words inputs t e f =
+    ap (λ o. called (counted k) o which words inputs) e
+    ∙ ap (λ o. called_by (counted k) t which words inputs o) f.placed
+    ∙ ap (λ o. called_in (counted k) t which words inputs f.place (flat o)) f.lives
 
+module _ (k : KernelState) (i : ℕ) (which : Option KCall) (words : List ℕ) (inputs : List (List ℕ)) (sound : IsSound k) (le : length (kinds_in which) ≤ length words) where
   step_owes : (x : ThreadRow) (t : Thread) → thread_of k.sched.threads i ≡ Some t → Owes (counted k) i x which (gone_or_waits k i x which words) (step k i which words inputs)
   step_owes x t e =
       let f = found k i t sound e in
-      subst (λ s. Owes (counted k) i x which (gone_or_waits k i x which words) s) (sym (step_is t e f))
+      subst (λ s. Owes (counted k) i x which (gone_or_waits k i x which words) s) (sym (step_is k i which words inputs t e f))
       (subst (λ n. Owes (counted k) n x which (gone_or_waits k n x which words) (asked which (counted k) (caller t f.place f.group which words) words inputs)) f.number
       (asked_owes (counted k) t f.place f.group x words inputs which (record { sound = sound; slot = f.slot; stands = f.stands; lives = f.lives; member = f.member }) le))
 
-nobody : (k : KernelState) (i : ℕ) (which : Option KCall) (words : List ℕ) (inputs : List (List ℕ)) → thread_of k.sched.threads i ≡ None → step k i which words inputs ≡ silent (counted k)
+pub nobody : (k : KernelState) (i : ℕ) (which : Option KCall) (words : List ℕ) (inputs : List (List ℕ)) → thread_of k.sched.threads i ≡ None → step k i which words inputs ≡ silent (counted k)
 unfolding step
 nobody k i which words inputs e = ap (λ o. called (counted k) o which words inputs) e
 

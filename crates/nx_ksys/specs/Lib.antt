@@ -17,3 +17,4 @@ pub mod Gathered
 pub mod Laws
 pub mod Soundness
 pub mod TableLaws
+pub mod ByteLaws
