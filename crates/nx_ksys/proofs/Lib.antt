@@ -25,3 +25,4 @@ pub mod TreeBytes
 pub mod EndBytes
 pub mod ThreadBytes
 pub mod Spoken
+pub mod Inputs

@@ -2,9 +2,10 @@
 use Rattle.std.specs.Prelude.{◌≡◌, ℕ, ◌^◌, ◌<◌, ◌≤◌, nat_abs, List, length, Option, Some, slice_get}
 use Rattle.std.specs.List.{All}
 use Rattle.nx_base.specs.ByteLists.{AreBytes}
-use Rattle.nx_base.specs.Calls.{Reply}
+use Rattle.nx_base.specs.Calls.{Reply, AreInputs}
 use Rattle.nx_base.specs.Replies.{most_moved}
 use Rattle.nx_base.specs.declared.calls.KCall.{KCall}
+use Rattle.nx_base.specs.declared.calls.Kind.{Kind}
 use Rattle.nx_ksys.specs.declared.thread.Thread.{Thread}
 use Rattle.nx_ksys.specs.State.{FileTree, Group, Code, Limits, KernelState}
 use Rattle.nx_ksys.specs.Step.{step}
@@ -65,3 +66,7 @@ CallsTellBytes = (k : KernelState) (thread : ℕ) (which : Option KCall) (words 
 
 abbrev pub ChoicesTellBytes : Type 0
 ChoicesTellBytes = (k : KernelState) → IsSound k → IsOfBytes k → IsOfBytes (picked k).to × Each IsTold (picked k).replies
+
+-- the inputs of a well formed call, where they are bytes
+abbrev pub WellFormedInputs : Type 0
+WellFormedInputs = (kinds : List Kind) (words : List ℕ) (inputs : List (List ℕ)) → AreInputs kinds words inputs → All AreBytes inputs → Each IsInput inputs

@@ -1,5 +1,5 @@
 ghost use Rattle.nx_ksys.specs.Laws.{CallsCountOne, ConsolesGrow, PointersMeanNothing, PickingIsStill, ChosenAgain, EndedWithoutGroups};
-ghost use Rattle.nx_ksys.specs.ByteLaws.{BootIsOfBytes, CallsTellBytes, ChoicesTellBytes};
+ghost use Rattle.nx_ksys.specs.ByteLaws.{BootIsOfBytes, CallsTellBytes, ChoicesTellBytes, WellFormedInputs};
 ghost use Rattle.nx_ksys.specs.TableLaws.{BootIsSound, CallsStaySound, ChoicesStaySound, NumbersWereGiven, SlotsDiffer, CallsChangeThreads, ChoicesChangeThreads, SameMeaningSameStep, NobodysCallIsSilent};
 
 /// A law: each call counts one, whatever it answers.
@@ -69,8 +69,10 @@ pub fn what_a_call_means_decides_it()
 /// A law: where the kernel is told bytes, it tells bytes. Names, paths, contents, arguments and
 /// console input are bytes after boot, where the configuration's are, and stay so; and each reply's
 /// value is a word, and its outputs are bytes, if each input of each call is of at most 4,096 bytes.
+/// The inputs of a well formed call are that short.
 pub fn what_the_kernel_tells_is_words_and_bytes()
     ensures boot { BootIsOfBytes }
     ensures call { CallsTellBytes }
     ensures choice { ChoicesTellBytes }
+    ensures inputs { WellFormedInputs }
 {}
