@@ -1,6 +1,6 @@
 -- Worked calls, computed by the definitions.
 use Rattle.nx_ksys.specs.Telling.{reply, failure}
-use Rattle.std.proofs.Common.{◌≡◌, ℕ, List, [], ◌∷◌, Some, refl, replicate}
+use Rattle.std.proofs.Common.{◌≡◌, ℕ, List, [], ◌∷◌, Some, None, refl, replicate}
 use Rattle.std.specs.Prelude.{codes}
 use Rattle.nx_base.specs.Calls.{Reply}
 use Rattle.nx_base.specs.declared.calls.KCall.{KCall}
@@ -9,12 +9,15 @@ use Rattle.nx_base.specs.declared.errno.Errno.TheVariants as errno
 use Rattle.nx_ksys.specs.State.{Limits, KernelState, free_blocks}
 use Rattle.nx_ksys.specs.Boot.{booted}
 use Rattle.nx_ksys.specs.Step.{step}
-use Rattle.nx_ksys.specs.Threads.{thread_of, change_thread, with_error}
+use Rattle.nx_base.specs.ByteLists.{to_le}
+use Rattle.nx_ksys.specs.Told.{threads}
+use Rattle.nx_ksys.specs.Ends.{first_lost, vanished, without_descriptors, left_alone, told_parent, end_group, exit_row}
+use Rattle.nx_ksys.specs.Threads.{thread_of, slot_of, first_of, change_thread, wake, block, with_error}
 use Rattle.nx_ksys.specs.Paths.{normal, node_at, resolved}
 use Rattle.nx_ksys.specs.Descriptors.{opened, free_descriptor, swept, released, closed}
 use Rattle.nx_ksys.specs.FileCalls.{with_written, write_row, open_row, close_row}
 use Rattle.nx_ksys.specs.TreeCalls.{unlink_row, mkdir_row, rename_row}
-use Rattle.nx_ksys.specs.GroupCalls.{spawn_row}
+use Rattle.nx_ksys.specs.GroupCalls.{spawn_row, waitpid_row}
 
 abbrev small : Limits
 small = record { programs = codes "p" ∷ []; blocks = 16; objects = 16; console = 1024 }
@@ -82,3 +85,23 @@ a_program_starts = refl
 no_third_thread : said (after first call.NxSpawn (0 ∷ 0 ∷ 0 ∷ []) (codes "/bin/p" ∷ [] ∷ [])) call.NxSpawn (0 ∷ 0 ∷ 0 ∷ []) (codes "/bin/p" ∷ [] ∷ []) ≡ failure 1 errno.Eagain ∷ []
 unfolding booted step thread_of spawn_row resolved normal node_at change_thread with_error
 no_third_thread = refl
+
+-- ---- what is seen of threads
+
+abbrev with_child : KernelState
+with_child = after first call.NxSpawn (0 ∷ 0 ∷ 0 ∷ []) (codes "/bin/p" ∷ [] ∷ [])
+
+abbrev parent_waits : KernelState
+parent_waits = after with_child call.Waitpid (2 ∷ 9 ∷ 0 ∷ []) []
+
+the_shell_stands_ready : threads first 1 ≡ Some (record { group = 1; program = 1; slot = 0; waits = None })
+unfolding booted threads thread_of slot_of
+the_shell_stands_ready = refl
+
+it_waits_without_its_pointer : threads parent_waits 1 ≡ Some (record { group = 1; program = 1; slot = 0; waits = Some (record { call = Some call.Waitpid; words = 2 ∷ 0 ∷ 0 ∷ [] }) })
+unfolding booted step threads thread_of slot_of spawn_row waitpid_row resolved normal node_at change_thread block
+it_waits_without_its_pointer = refl
+
+its_child_ends_with_7 : (step parent_waits 2 (Some call.Exit) (7 ∷ []) []).replies ≡ reply 1 2 ((7 ∷ 0 ∷ 0 ∷ 0 ∷ []) ∷ []) ∷ []
+unfolding booted step thread_of spawn_row waitpid_row exit_row end_group told_parent first_of first_lost vanished without_descriptors left_alone closed released swept resolved normal node_at change_thread block wake to_le
+its_child_ends_with_7 = refl
