@@ -1,0 +1,5 @@
+pub mod Values
+pub mod Groups
+pub mod Memory
+pub mod Buffers
+pub mod Starts
