@@ -1,0 +1,6 @@
+//! What a checked C program does: an abstract thread without addresses, which runs one step at a time.
+#![tactic(auto)]
+
+mod item;
+
+pub use item::{Item, Leaf};
