@@ -3,6 +3,7 @@
 #![tactic(auto)]
 
 mod operand;
+mod parts;
 mod reading;
 mod signs;
 mod stop;
