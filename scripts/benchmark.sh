@@ -22,7 +22,7 @@ scripts=$(cd "$(dirname "$0")" && pwd)
 folder=$(mktemp -d)
 trap 'rm -rf "$folder"' EXIT
 
-layouts=(flat protected)
+layouts=(flat protected paged)
 
 # Proves and builds nx_loop, and keeps the loop's words.
 (cd "$scripts/../crates/nx_loop" && rt run -- flat 0) | sed -n 's/^words //p' >"$folder/words"

@@ -1,8 +1,10 @@
 ghost use Rattle.std.specs.Prelude.{◌≡◌, ◌<◌, [], length, IfOk};
 ghost use Rattle.nx_space.specs.World.{IsEntered};
+ghost use Rattle.nx_paged.specs.Paging.{IsLaidOut};
 
 use crate::turns::{TURN_WORDS, turn_words};
-use nx_base::{Bytes, OutOfMemory, Regs, Text};
+use nx_base::{Bytes, OutOfMemory, Regs, Text, put_le32};
+use nx_paged::PagedSpace;
 use nx_ram::{ProgImage, Ram};
 use nx_space::{FlatSpace, PmpSpace, RAM_START, Space};
 use std::alloc::Global;
@@ -15,7 +17,15 @@ const STACK_BYTES: u32 = 4096;
 // Where the data begin, and the stack: the loop's word stands between them.
 const DATA_AT: u32 = RAM_START + 4096;
 
+/// Where the loop's word stands.
+pub const WORD_AT: u32 = RAM_START + 0x8000;
+
 const STACKS_AT: u32 = RAM_START + 61440;
+
+// Where the text and the loop's word stand in a view of page tables.
+const PAGED_TEXT_AT: u32 = 0x00010000;
+
+const PAGED_WORD_AT: u32 = 0x10000000;
 
 const GROUP: u32 = 1;
 
@@ -32,7 +42,7 @@ pub struct Board<S> {
 fn loaded_ram(alloc: Global) -> Result<Ram, OutOfMemory>
     ensures { IfOk result (λ ram. length ram ≡ RAM_BYTES) }
 {
-    let words = turn_words();
+    let words = turn_words(WORD_AT);
     let mut ram = Ram::new(alloc, RAM_BYTES)?;
     for i in 0..TURN_WORDS {
         ram.store32(4 * i as u32, words[i]);
@@ -103,4 +113,42 @@ pub fn protected_board(alloc: Global) -> Result<Board<PmpSpace>, OutOfMemory>
         STACK_BYTES,
         1,
     )?)
+}
+
+// The same program where page tables give it a page of text and one of data.
+fn paged_program(alloc: Global) -> Result<ProgImage, OutOfMemory>
+    ensures { IfOk result IsLaidOut }
+{
+    let words = turn_words(PAGED_WORD_AT);
+    let mut text = [0; 4 * TURN_WORDS];
+    for i in 0..TURN_WORDS {
+        put_le32(&mut text, 4 * i, words[i]);
+    }
+    Ok(ProgImage {
+        name: Text::from_str(alloc, "loop")?,
+        text_at: PAGED_TEXT_AT,
+        text: Bytes::from_slice(alloc, &text)?,
+        data_at: PAGED_WORD_AT,
+        init: Bytes::from_slice(alloc, &[0, 0, 0, 0])?,
+        main: PAGED_TEXT_AT,
+        end_group: PAGED_TEXT_AT,
+        end_thread: PAGED_TEXT_AT,
+    })
+}
+
+// A RAM of zeros.
+fn blank_ram(alloc: Global, size: u32) -> Result<Ram, OutOfMemory>
+    ensures { IfOk result (λ ram. length ram ≡ size) }
+{
+    Ram::new(alloc, size)
+}
+
+/// The same by page tables, which are walked at each fetch, load and store.
+pub fn paged_board(alloc: Global) -> Result<Board<PagedSpace>, OutOfMemory>
+    ensures { IfOk result (λ board. IsEntered (⟦<PagedSpace as Space>⟧.world board.space)) }
+{
+    let ram = blank_ram(alloc, RAM_BYTES)?;
+    let mut programs = Vec::new(alloc);
+    programs.push(paged_program(alloc)?)?;
+    started(PagedSpace::new(alloc, ram, programs, 0, STACK_BYTES, 1)?)
 }

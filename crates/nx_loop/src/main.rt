@@ -1,6 +1,6 @@
 //! Runs a loop of instructions in a space of one layout, as many as its second argument says, and
-//! prints the loop's words, how many instructions were made, and a0. scripts/benchmark.sh measures
-//! it.
+//! prints the loop's words as a flat space has them, how many instructions were made, and a0.
+//! scripts/benchmark.sh measures it.
 #![tactic(auto)]
 
 mod board;
@@ -9,7 +9,7 @@ mod turns;
 ghost use Rattle.nx_space.specs.World.{IsEntered};
 
 use anyhow::{Context, Result, bail};
-use board::{Board, flat_board, protected_board};
+use board::{Board, WORD_AT, flat_board, paged_board, protected_board};
 use nx_base::Count;
 use nx_machine::Machine;
 use nx_space::Space;
@@ -17,7 +17,7 @@ use std::env;
 use std::rt::Env;
 use turns::{A0, turn_words};
 
-const USAGE: &str = "usage: nx_loop flat|protected COUNT";
+const USAGE: &str = "usage: nx_loop flat|protected|paged COUNT";
 
 /// What a run made, and where the loop's counter stood then.
 #[derive(Drop)]
@@ -46,7 +46,7 @@ fn main(rt: HostRuntime) -> Result<()> {
     let text = args.next().context(USAGE)?;
     let limit = text.as_str().parse::<u64>().context("reading the count")?;
     print!(rt; "words")?;
-    for word in &turn_words() {
+    for word in &turn_words(WORD_AT) {
         print!(rt; " {word:08x}")?;
     }
     println!(rt; "")?;
@@ -54,6 +54,7 @@ fn main(rt: HostRuntime) -> Result<()> {
     let made = match layout.as_str() {
         "flat" => run(flat_board(rt.alloc())?, limit),
         "protected" => run(protected_board(rt.alloc())?, limit),
+        "paged" => run(paged_board(rt.alloc())?, limit),
         _ => bail!(USAGE),
     };
     println!(rt; "instructions {}", made.instructions)?;

@@ -1,12 +1,8 @@
 use nx_base::{AluOp, Cond};
 use nx_rv::{Inst, encode};
-use nx_space::RAM_START;
 
 /// How many instructions stand in the loop, with the one before it.
 pub const TURN_WORDS: usize = 7;
-
-// The address of the word in memory.
-const DATA: u32 = RAM_START + 0x8000;
 
 const T0: u8 = 5;
 
@@ -15,10 +11,13 @@ const T1: u8 = 6;
 /// The register that counts the turns.
 pub const A0: u8 = 10;
 
-/// A loop that counts its turns in a0 and adds each count to a word in memory.
-pub fn turn_words() -> [u32; TURN_WORDS] {
+/// A loop that counts its turns in a0 and adds each count to a word in memory, at the start of a page.
+pub fn turn_words(word_at: u32) -> [u32; TURN_WORDS] {
     [
-        encode(&Inst::Lui { rd: T0, imm: DATA }),
+        encode(&Inst::Lui {
+            rd: T0,
+            imm: word_at,
+        }),
         encode(&Inst::OpImm {
             op: AluOp::Add,
             rd: A0,
