@@ -6,7 +6,8 @@ ghost use Rattle.nx_cexpr.specs.declared.operand.Form.TheVariants as form;
 ghost use Rattle.nx_cexpr.specs.Operands as operands;
 
 use crate::operand::{Form, Lvalue, Operand, Tall, Target};
-use nx_ctree::{AssignOperator, Expr, ExprKind, Place, PlaceKind, Shared, UnaryOperator};
+use nx_ctree::{AssignOperator, Expr, ExprKind, Place, PlaceKind, UnaryOperator};
+use nx_shared::Shared;
 use std::alloc::{AllocError, Global};
 
 fn index_kind(alloc: Global, base: Expr, index: Expr) -> Result<ExprKind, AllocError>
