@@ -1,17 +1,16 @@
 -- The space and its world after a stack that a group has is set to zeros.
-use Rattle.std.proofs.Common.{◌≡◌, ◌≢◌, ℕ, suc, ◌+◌, ◌-◌, ◌*◌, ◌/◌, ◌%◌, ◌<◌, ◌≤◌, ◌⊎◌, ◌==◌, ◌||◌, Bool, true, false, ◌&&◌, not, Some, None, Option, List, [], ◌∷◌, ◌++◌, length, map, take, get_or, refl, sym, ap, ◌∙◌, subst, arith, inl, inr, ⊎_elim}
+use Rattle.std.proofs.Common.{◌≡◌, ℕ, suc, ◌+◌, ◌-◌, ◌*◌, ◌/◌, ◌%◌, ◌<◌, ◌≤◌, ◌==◌, ◌||◌, Bool, true, false, not, Some, Option, List, [], ◌∷◌, ◌++◌, length, map, take, get_or, refl, sym, ap, ◌∙◌, subst, arith, inl, inr, ⊎_elim}
 use Rattle.std.specs.Prelude.{if◌then◌else◌, slice_set, slice_index_or}
-use Rattle.nx_base.specs.ByteLists.{AreBytes, put_bytes}
-use Rattle.nx_frames.specs.Stock.{Stock, Holds, Keeps, AreHeld}
+use Rattle.nx_base.specs.ByteLists.{put_bytes}
+use Rattle.nx_frames.specs.Stock.{AreHeld}
 use Rattle.nx_tables.specs.Maps.{Maps, satp_of}
-use Rattle.nx_tables.specs.Roles.{Role, Leaf, is_table, is_of, Stands, SameRoles}
 use Rattle.nx_tables.specs.Seen.{seen, IsMapped}
 use Rattle.nx_tables.proofs.Kept.{same_number, leaf_is_of, of_one}
-use Rattle.nx_space.specs.World.{Own, Group, World, MemoryMap, group_of}
+use Rattle.nx_space.specs.World.{Own, World, MemoryMap, group_of}
 use Rattle.nx_space.specs.Places.{Place, place_in, written_at, with_own, put_into}
 use Rattle.nx_space.specs.Starts.{program_at, has_slot, stack_low, pages_of, grown, put_or, put_seen, zero_stack, with_stack, change_group, but_outside}
 use Rattle.nx_paged.specs.Tenants.{Tenant, has_tenant, are_distinct}
-use Rattle.nx_paged.specs.Spans.{Span, Each, IsSpan, IsApart, AreApart, span_bytes, spans_of, stack_span, stack_spans, span_of, part_of, parts_from}
+use Rattle.nx_paged.specs.Spans.{Span, Each, IsSpan, IsApart, AreApart, span_bytes, spans_of, stack_span, stack_spans, span_of, parts_from}
 use Rattle.nx_paged.specs.Paging.{Paging, paged_plan, paged_group, paged_world, IsPlaced, IsLive, IsPaged}
 use Rattle.nx_paged.specs.Layout.{IsAmong, among_right, stack_among, apart_of, not_held, is_held}
 use Rattle.nx_paged.specs.Writing.{IsPlace, Writes, WritesAll}
@@ -22,7 +21,7 @@ use Rattle.nx_paged.proofs.Begun.{Untouched, still_groups, still_lives}
 use Rattle.nx_paged.proofs.Mapped.{window_still}
 use Rattle.nx_paged.proofs.Zeros.{zeros, length-zeros}
 use Rattle.nx_paged.proofs.Splits.{map_middle, map_rest, each_middle, each_rest, each_insert, each_before, each_after, none_after, none_rest, group_middle}
-use Rattle.nx_paged.proofs.Growths.{Bounds, bounds_of}
+use Rattle.nx_paged.proofs.Growths.{bounds_of}
 use Rattle.nx_frames.proofs.Owners.{held_first}
 
 -- a group that has the stack of a slot

@@ -1,6 +1,6 @@
 -- The space and its world after a group has got one stack more.
-use Rattle.std.proofs.Common.{◌≡◌, ◌≢◌, ℕ, ◌+◌, ◌-◌, ◌*◌, ◌/◌, ◌%◌, ◌<◌, ◌≤◌, Bool, true, false, List, [], ◌∷◌, ◌++◌, length, map, take, get_or, refl, sym, ap, ◌∙◌, subst, arith, ⊎_elim}
-use Rattle.std.specs.Prelude.{if◌then◌else◌, ◌&&◌, not}
+use Rattle.std.proofs.Common.{◌≡◌, ◌≢◌, ℕ, ◌+◌, ◌*◌, ◌/◌, ◌%◌, ◌<◌, ◌≤◌, Bool, true, false, List, [], ◌∷◌, ◌++◌, length, map, take, get_or, refl, sym, ap, ◌∙◌, subst, arith, ⊎_elim}
+use Rattle.std.specs.Prelude.{if◌then◌else◌, not}
 use Rattle.std.specs.List.{All}
 use Rattle.std.proofs.lemmas.List.{length-append}
 use Rattle.nx_base.specs.ByteLists.{AreBytes}
@@ -18,17 +18,16 @@ use Rattle.nx_paged.specs.Tenants.{Tenant, has_tenant, are_distinct, frames_take
 use Rattle.nx_paged.specs.Spans.{Each, Shows}
 use Rattle.nx_paged.specs.Paging.{Paging, paged_plan, paged_group, paged_world, FitsPaged, IsTenant, IsPlaced, FrameAt, IsLive, IsPaged}
 use Rattle.nx_paged.specs.Finding.{each_of}
-use Rattle.nx_paged.specs.Building.{regions_of}
-use Rattle.nx_paged.proofs.FrameLists.{each_left, each_right}
+use Rattle.nx_paged.proofs.FrameLists.{each_right}
 use Rattle.nx_paged.proofs.Shown.{take_same}
 use Rattle.nx_paged.proofs.Ends.{holdings, all_of, same_plan}
 use Rattle.nx_paged.proofs.Begun.{elsewhere_of, still_groups, still_lives, still_nobody, one_or_none}
 use Rattle.nx_paged.proofs.Newcomers.{high_frames}
 use Rattle.nx_paged.proofs.Mapped.{not_table}
 use Rattle.nx_paged.proofs.Slots.{each_slot, all_slots, each_more, once_more}
-use Rattle.nx_paged.proofs.Splits.{map_middle, map_rest, each_middle, each_rest, each_insert, each_before, each_after, same_length, distinct_same, none_after, none_rest, taken_middle, group_middle, change_middle}
+use Rattle.nx_paged.proofs.Splits.{map_middle, map_rest, each_rest, each_insert, each_before, each_after, same_length, distinct_same, none_after, none_rest, taken_middle, group_middle, change_middle}
 use Rattle.nx_paged.proofs.Growths.{Growth, frames_in, free_in, live_in, tenant_in, need_frames, frames_length, role_elsewhere, role_same, taken_in, others_in, Built}
-use Rattle.nx_paged.proofs.GrownWindows.{slots_in, spans_last, grown_shows, grown_tables, grown_tenant, grown_group}
+use Rattle.nx_paged.proofs.GrownWindows.{slots_in, spans_last, grown_shows, grown_tables, grown_group}
 
 -- the frames are put to those that the group had
 pub record Joined (g : Growth) (stock : Stock) (joined : Taken) : Type 0 where

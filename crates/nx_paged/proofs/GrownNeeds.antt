@@ -1,10 +1,10 @@
 -- The frames that one stack more needs.
-use Rattle.std.proofs.Common.{◌≡◌, ℕ, zero, suc, ◌+◌, ◌-◌, ◌*◌, ◌/◌, ◌%◌, ◌<◌, ◌≤◌, ◌==◌, Bool, true, false, ◌||◌, List, [], ◌∷◌, ◌++◌, length, map, refl, sym, ap, ◌∙◌, subst, arith, append_assoc}
+use Rattle.std.proofs.Common.{◌≡◌, ℕ, zero, suc, ◌+◌, ◌/◌, ◌%◌, ◌≤◌, ◌==◌, Bool, true, false, ◌||◌, List, [], ◌∷◌, ◌++◌, length, map, refl, sym, ap, ◌∙◌, arith, append_assoc}
 use Rattle.std.specs.Prelude.{if◌then◌else◌}
 use Rattle.std.specs.List.{list_any}
 use Rattle.std.proofs.lemmas.List.{length-append, append-nil}
 use Rattle.nx_space.specs.World.{MemoryMap}
-use Rattle.nx_space.specs.Starts.{program_at, stack_low, pages_of, pages_from, pages_at, stack_pages, mapped_pages, different, frames_for}
+use Rattle.nx_space.specs.Starts.{program_at, stack_low, pages_of, pages_at, stack_pages, mapped_pages, different, frames_for}
 use Rattle.nx_paged.specs.Spans.{Each}
 use Rattle.nx_paged.proofs.Regions.{regions_from, any_append, one_region, different_before, different_after}
 use Rattle.nx_paged.proofs.Needs.{map_both, length-pages}

@@ -1,10 +1,10 @@
 -- What one stack more does to the free frames.
-use Rattle.std.proofs.Common.{◌≡◌, ℕ, zero, suc, ◌+◌, ◌-◌, ◌/◌, ◌≤◌, ◌==◌, Bool, true, false, ◌&&◌, ◌||◌, not, Option, Some, None, List, [], ◌∷◌, ◌++◌, length, map, refl, sym, ap, ◌∙◌, arith, append_assoc}
+use Rattle.std.proofs.Common.{◌≡◌, ℕ, ◌+◌, ◌-◌, ◌/◌, ◌≤◌, ◌==◌, Bool, true, false, ◌&&◌, ◌||◌, not, Option, Some, None, List, [], ◌∷◌, ◌++◌, length, refl, ap, ◌∙◌, arith, append_assoc}
 use Rattle.std.specs.Prelude.{if◌then◌else◌}
 use Rattle.std.proofs.lemmas.List.{length-append, append-nil}
 use Rattle.nx_space.specs.World.{Home, Common, Own, Part, Group, MemoryMap, World, has_view, group_of}
 use Rattle.nx_space.specs.Places.{Place, written_at, with_own, put_home}
-use Rattle.nx_space.specs.Starts.{stack_low, pages_at, mapped_pages, pages_of, different, frames_for, frames_of, needs, free, has_slot, with_slot, grow_need, put_or, put_seen, zero_stack, with_stack, change_group, grown, but_outside}
+use Rattle.nx_space.specs.Starts.{stack_low, pages_at, mapped_pages, pages_of, different, frames_for, frames_of, needs, free, has_slot, grow_need, put_or, put_seen, zero_stack, with_stack, change_group, grown, but_outside}
 use Rattle.nx_paged.proofs.Regions.{regions_from, different_after}
 use Rattle.nx_paged.proofs.GrownNeeds.{group_regions, pages_last, regions_last}
 use Rattle.nx_paged.proofs.Shares.{free_outside}

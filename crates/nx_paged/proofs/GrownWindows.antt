@@ -1,20 +1,20 @@
 -- The windows of a group that has one stack more.
-use Rattle.std.proofs.Common.{◌≡◌, ◌≢◌, ℕ, zero, suc, ◌+◌, ◌-◌, ◌*◌, ◌/◌, ◌%◌, ◌<◌, ◌≤◌, ◌⊎◌, ◌==◌, Bool, true, false, Some, None, List, [], ◌∷◌, ◌++◌, length, map, get_or, refl, sym, ap, ◌∙◌, subst, arith, inl, inr, ⊎_elim, append_assoc}
-use Rattle.std.specs.Prelude.{if◌then◌else◌, slice_index}
-use Rattle.std.specs.List.{All, list_any}
+use Rattle.std.proofs.Common.{◌≡◌, ℕ, suc, ◌+◌, ◌*◌, ◌/◌, ◌%◌, ◌<◌, ◌≤◌, ◌⊎◌, ◌==◌, true, false, Some, None, List, [], ◌∷◌, ◌++◌, length, map, get_or, refl, sym, ap, ◌∙◌, subst, arith, inl, inr, ⊎_elim, append_assoc}
+use Rattle.std.specs.Prelude.{if◌then◌else◌}
+use Rattle.std.specs.List.{list_any}
 use Rattle.std.proofs.lemmas.List.{length-map}
 use Rattle.nx_base.specs.declared.access.Access.TheVariants.{Load}
 use Rattle.nx_sv32.specs.Walk.{walk}
-use Rattle.nx_tables.specs.Maps.{Maps, satp_of}
-use Rattle.nx_tables.specs.Roles.{Role, Leaf, is_table, is_of, Stands}
+use Rattle.nx_tables.specs.Maps.{satp_of}
+use Rattle.nx_tables.specs.Roles.{Role, Leaf, is_table}
 use Rattle.nx_tables.specs.Seen.{byte_by, seen, PageAt, IsMapped}
 use Rattle.nx_tables.proofs.Kept.{leaf_is_of}
-use Rattle.nx_tables.proofs.Views.{length-seen, get-seen, byte_mapped, seen_alike}
+use Rattle.nx_tables.proofs.Views.{get-seen, byte_mapped, seen_alike}
 use Rattle.nx_space.specs.World.{Own, Part, Group, MemoryMap}
-use Rattle.nx_space.specs.Starts.{program_at, stack_low, pages_of, stack_area, own_part, with_stack}
-use Rattle.nx_paged.specs.Tenants.{Tenant, are_once}
+use Rattle.nx_space.specs.Starts.{program_at, with_stack}
+use Rattle.nx_paged.specs.Tenants.{Tenant}
 use Rattle.nx_paged.specs.Spans.{Span, Each, Shows, IsSpan, IsApart, AreApart, span_of, span_bytes, spans_of, stack_span, stack_spans, part_of, parts_from, covers, first_span}
-use Rattle.nx_paged.specs.Paging.{Paging, paged_plan, paged_group, IsPaged, IsPlaced, has_region}
+use Rattle.nx_paged.specs.Paging.{paged_plan, paged_group, IsPaged, has_region}
 use Rattle.nx_paged.specs.Lawful.{fits_stacks}
 use Rattle.nx_paged.specs.Layout.{AreLaidOut, laid_out, group_laid_out}
 use Rattle.nx_paged.specs.Building.{look, regions_of}
@@ -22,9 +22,8 @@ use Rattle.nx_paged.proofs.Looks.{look_in, look_out, each_spans, none_covers, no
 use Rattle.nx_paged.proofs.Mapped.{Added, window_mapped, window_zeros}
 use Rattle.nx_paged.proofs.Zeros.{zeros, length-zeros}
 use Rattle.nx_paged.proofs.Slots.{each_slot, all_slots, each_more, once_more}
-use Rattle.nx_paged.proofs.Regions.{regions_from}
 use Rattle.nx_paged.proofs.Needs.{regions_entries}
-use Rattle.nx_paged.proofs.GrownNeeds.{group_regions, any_last}
+use Rattle.nx_paged.proofs.GrownNeeds.{any_last}
 use Rattle.nx_paged.proofs.Growths.{Growth, low_in, first_in, count_in, entries_in, regions_in, live_in, tenant_in, bounds_in, byte_after, Built, site_in}
 
 -- the windows with that of the new stack

@@ -1,5 +1,5 @@
 -- What one stack more comes to, for a group that is found by its number.
-use Rattle.std.proofs.Common.{◌≡◌, ◌≢◌, ℕ, ◌+◌, ◌-◌, ◌*◌, ◌/◌, ◌<◌, ◌≤◌, Bool, true, false, List, [], ◌∷◌, ◌++◌, length, map, get_or, refl, sym, ap, ◌∙◌, subst, arith}
+use Rattle.std.proofs.Common.{◌≡◌, ℕ, ◌+◌, ◌-◌, ◌*◌, ◌/◌, ◌<◌, ◌≤◌, true, false, List, [], ◌∷◌, ◌++◌, length, map, get_or, refl, sym, ap, ◌∙◌, subst, arith}
 use Rattle.std.specs.Prelude.{if◌then◌else◌, slice_set}
 use Rattle.std.specs.Option.{is_some}
 use Rattle.std.proofs.Props.{props}
@@ -20,14 +20,14 @@ use Rattle.nx_paged.specs.Finding.{each_of}
 use Rattle.nx_paged.specs.Building.{entries_from, regions_of, HasRoom, Adds}
 use Rattle.nx_paged.specs.Writing.{HasPlace, WritesAll}
 use Rattle.nx_paged.proofs.HeldOnce.{holds_prop, apart_prop}
-use Rattle.nx_paged.proofs.Saves.{with_ram, still_placed}
+use Rattle.nx_paged.proofs.Saves.{with_ram}
 use Rattle.nx_paged.proofs.Started.{free_is}
 use Rattle.nx_paged.proofs.Slots.{few_slots, each_slot, each_more, once_more}
 use Rattle.nx_paged.proofs.Splits.{Split, split_of, each_middle, get_middle, set_middle, root_same, group_middle}
 use Rattle.nx_paged.proofs.Zeros.{zeros}
 use Rattle.nx_paged.proofs.GrownNeeds.{group_regions, table_more, frames_more}
 use Rattle.nx_paged.proofs.Cleared.{Clearing, place_at, cleared_paged, cleared_world}
-use Rattle.nx_paged.proofs.Growths.{Growth, bounds_of, table_told, low_in, frames_in, entries_in, count_in, need_frames, frames_length, room_in, built_in, Built}
+use Rattle.nx_paged.proofs.Growths.{Growth, bounds_of, table_told, low_in, frames_in, entries_in, need_frames, frames_length, room_in, built_in, Built}
 use Rattle.nx_paged.proofs.Grown.{Joined, newer, tenants_in, grown_space, own_held, more_apart, grown_paged, grown_placed, grown_world}
 
 world_prop : (a b : World) → IsProp (a ≡ b)

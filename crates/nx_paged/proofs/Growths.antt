@@ -1,27 +1,26 @@
 -- The frames of one stack more, and the pages that are mapped in them.
-use Rattle.std.proofs.Common.{◌≡◌, ◌≢◌, ℕ, ◌+◌, ◌-◌, ◌*◌, ◌/◌, ◌%◌, ◌<◌, ◌≤◌, ◌==◌, Bool, true, false, Some, None, List, [], ◌∷◌, ◌++◌, length, map, take, refl, sym, ap, ◌∙◌, subst, arith, inl, inr, ⊎_elim}
+use Rattle.std.proofs.Common.{◌≡◌, ◌≢◌, ℕ, ◌+◌, ◌*◌, ◌/◌, ◌%◌, ◌<◌, ◌≤◌, ◌==◌, true, false, List, [], ◌∷◌, ◌++◌, length, refl, sym, ap, ◌∙◌, subst, arith}
 use Rattle.std.specs.Prelude.{if◌then◌else◌, slice_index}
 use Rattle.std.specs.List.{list_any}
 use Rattle.std.specs.Option.{is_some}
-use Rattle.std.proofs.lemmas.List.{length-append, append-nil, take_all}
+use Rattle.std.proofs.lemmas.List.{append-nil, take_all}
 use Rattle.nx_frames.specs.declared.frames.Taken.{Taken}
 use Rattle.nx_frames.specs.Stock.{Stock, SameFrames, Takes, frames_of}
 use Rattle.nx_frames.proofs.Chains.{length-chain}
 use Rattle.nx_sv32.specs.Walk.{ram_start, entry_at}
-use Rattle.nx_tables.specs.Maps.{Maps, satp_of, table_by}
-use Rattle.nx_tables.specs.Roles.{Role, Free, is_table, is_of, Stands}
+use Rattle.nx_tables.specs.Maps.{table_by}
+use Rattle.nx_tables.specs.Roles.{Role, Free, is_table, is_of}
 use Rattle.nx_tables.proofs.Walked.{root_tells}
 use Rattle.nx_tables.proofs.Kept.{stands_kept, same_roles, table_is_of}
 use Rattle.nx_space.specs.Starts.{pages_of, different, has_slot, frames_for, stack_low}
 use Rattle.nx_paged.specs.Tenants.{Tenant}
 use Rattle.nx_paged.specs.Spans.{Each}
-use Rattle.nx_paged.specs.Paging.{Paging, paged_plan, IsTenant, IsPlaced, FrameAt, IsLive, IsPaged, has_region}
+use Rattle.nx_paged.specs.Paging.{Paging, paged_plan, IsTenant, IsPlaced, FrameAt, IsLive, IsPaged}
 use Rattle.nx_paged.specs.Finding.{each_of}
-use Rattle.nx_paged.specs.Building.{Entry, entries_from, look, regions_of, IsFresh, Site, Building, HasRoom, Adds}
+use Rattle.nx_paged.specs.Building.{Entry, entries_from, look, regions_of, Site, Building, HasRoom, Adds}
 use Rattle.nx_paged.proofs.FrameLists.{each_left}
 use Rattle.nx_paged.proofs.Splits.{each_middle}
 use Rattle.nx_paged.proofs.Rooms.{length-entries}
-use Rattle.nx_paged.proofs.Regions.{regions_from}
 use Rattle.nx_paged.proofs.Needs.{regions_entries}
 use Rattle.nx_paged.proofs.GrownNeeds.{group_regions, IsCompact, table_more, more_regions, frames_more}
 use Rattle.nx_paged.proofs.Begun.{own_frames, apart_from, elsewhere_of, not_other, Untouched}

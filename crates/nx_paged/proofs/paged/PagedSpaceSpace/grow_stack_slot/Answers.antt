@@ -1,5 +1,4 @@
-use Rattle.std.proofs.Common.{◌≡◌, ◌∙◌, ◌+◌, ◌-◌, ◌*◌, ◌/◌, ◌<◌, ◌≤◌, List, [], ◌∷◌, ◌++◌, length, get_or, refl, ap, subst, sym, arith}
-use Rattle.std.specs.Prelude.{slice_set}
+use Rattle.std.proofs.Common.{◌≡◌, ◌∙◌, ◌+◌, List, [], ◌∷◌, ◌++◌, length, get_or, ap, subst, sym, arith}
 use Rattle.std.proofs.lemmas.List.{get_or_read}
 use Rattle.nx_space.specs.World.{World}
 use Rattle.nx_space.specs.Starts.{no_program, program_at, stack_low, regs_with, thread_regs, grow_need, grown, but_outside, has_slot}
@@ -7,7 +6,7 @@ use Rattle.nx_paged.specs.Tenants.{Tenant, root_of, place_of}
 use Rattle.nx_paged.specs.Paging.{paged_plan, paged_world, IsPlaced, IsPaged}
 use Rattle.nx_paged.specs.Finding.{tenant_view}
 use Rattle.nx_paged.specs.State.{state_of}
-use Rattle.nx_paged.proofs.Ends.{place_inside, root_low}
+use Rattle.nx_paged.proofs.Ends.{place_inside}
 use Rattle.nx_paged.proofs.Saves.{still_placed}
 use Rattle.nx_paged.proofs.Started.{free_is}
 use Rattle.nx_frames.specs.Chains.{AreApart}
