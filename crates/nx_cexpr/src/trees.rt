@@ -6,7 +6,9 @@ ghost use Rattle.nx_cexpr.specs.Operands as operands;
 use crate::operand::{Arguments, Element, Form, Lvalue, Operand, Target};
 use crate::parts::{expr_of, shared, shared_both, shared_place, unary_kind, written};
 use nx_base::Bytes;
-use nx_ctree::{AssignOperator, Base, BinaryOperator, Expr, ExprKind, Signed, StepOperator, UnaryOperator};
+use nx_ctree::{
+    AssignOperator, Base, BinaryOperator, Expr, ExprKind, Signed, StepOperator, UnaryOperator,
+};
 use nx_shared::Shared;
 use sqlite_items::Items;
 use std::alloc::{AllocError, Global};

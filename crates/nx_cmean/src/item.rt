@@ -1,6 +1,5 @@
 use nx_checked::{
-    ArrayName, Cell, CheckedExpr, CheckedStmt, Element, IntOperator, Scalar, Shape,
-    StepValue,
+    ArrayName, Cell, CheckedExpr, CheckedStmt, Element, IntOperator, Scalar, Shape, StepValue,
 };
 use nx_cobjects::{Infix, Prefix};
 use nx_shared::Shared;
@@ -44,21 +43,9 @@ pub enum Item {
     Rest(Shared<Items<CheckedStmt>>, usize),
     Test(Shared<CheckedStmt>, Option<Shared<CheckedStmt>>),
     FirstTest(Shared<CheckedExpr>, Shared<CheckedStmt>),
-    TestLoop(
-        Shared<CheckedExpr>,
-        Option<Shared<CheckedExpr>>,
-        Shared<CheckedStmt>,
-    ),
-    Turn(
-        Option<Shared<CheckedExpr>>,
-        Option<Shared<CheckedExpr>>,
-        Shared<CheckedStmt>,
-    ),
-    Again(
-        Option<Shared<CheckedExpr>>,
-        Option<Shared<CheckedExpr>>,
-        Shared<CheckedStmt>,
-    ),
+    TestLoop(Shared<CheckedExpr>, Option<Shared<CheckedExpr>>, Shared<CheckedStmt>),
+    Turn(Option<Shared<CheckedExpr>>, Option<Shared<CheckedExpr>>, Shared<CheckedStmt>),
+    Again(Option<Shared<CheckedExpr>>, Option<Shared<CheckedExpr>>, Shared<CheckedStmt>),
     Leave,
     Fall,
     Start(Scalar),
