@@ -61,3 +61,6 @@ fn main(rt: HostRuntime) -> Result<()> {
     println!(rt; "a0 {}", made.turns)?;
     Ok(())
 }
+
+#[cfg(test)]
+mod tests;
