@@ -111,27 +111,61 @@ fn unlink(tree: &mut Tree, text: &[u8]) -> Result<u32, Errno> {
     tree.remove_file(b"", text)
 }
 
+// What is done to a tree.
+#[derive(Clone, Copy)]
+enum Step {
+    Put(&'static [u8], NodeKind, bool),
+    Make(&'static [u8], &'static [u8], bool),
+    Remove(&'static [u8]),
+    Rename(&'static [u8], &'static [u8]),
+    Kind(&'static [u8]),
+    Enter(&'static [u8]),
+    List(&'static [u8], u32, &'static [u8]),
+    Unlink(&'static [u8]),
+}
+
+fn done(made: Result<(), Errno>) -> Result<u32, Errno> {
+    match made {
+        Ok(()) => Ok(0),
+        Err(fault) => Err(fault),
+    }
+}
+
+fn truth(answer: bool) -> Result<u32, Errno> {
+    if answer { Ok(1) } else { Ok(0) }
+}
+
+fn act(tree: &mut Tree, step: Step) -> Result<u32, Errno> {
+    match step {
+        Step::Put(path, kind, fixed) => truth(put(tree, path, kind, fixed)),
+        Step::Make(directory, text, is_full) => done(make(tree, directory, text, is_full)),
+        Step::Remove(text) => done(remove(tree, text)),
+        Step::Rename(first, second) => done(rename(tree, first, second)),
+        Step::Kind(text) => kind(tree, text),
+        Step::Enter(text) => truth(enters(tree, text)),
+        Step::List(text, index, name) => truth(lists(tree, text, index, name)),
+        Step::Unlink(text) => unlink(tree, text),
+    }
+}
+
 #[test]
 fn texts_name_paths(rt: HostRuntime) -> Result<(), Fail> {
-    assert!(rt; names(b"/tmp", b"a", b"/tmp/a"));
-    assert!(rt; names(b"", b"a//./b/", b"/a/b"));
-    assert!(rt; names(b"/tmp", b"/none/../bin", b"/bin"));
-    assert!(rt; names(b"/tmp", b"../..", b""));
-    assert!(rt; names(b"/tmp", b"/", b""));
-    assert!(rt;
-        names(
+    for (directory, text, path) in [
+        (b"/tmp".as_slice(), b"a".as_slice(), b"/tmp/a".as_slice()),
+        (b"", b"a//./b/", b"/a/b"),
+        (b"/tmp", b"/none/../bin", b"/bin"),
+        (b"/tmp", b"../..", b""),
+        (b"/tmp", b"/", b""),
+        (
             b"",
             b"/abcdefghijklmnopqrstuvwxyz0123456789/../tmp",
-            b"/tmp"
-        )
-    );
-    assert!(rt;
-        !names(
-            b"",
-            b"/abcdefghijklmnopqrstuvwxyz0123456",
-            b"/abcdefghijklmnopqrstuvwxyz0123456"
-        )
-    );
+            b"/tmp",
+        ),
+    ] {
+        assert!(rt; names(directory, text, path), "{text:?}");
+    }
+    let long = b"/abcdefghijklmnopqrstuvwxyz0123456".as_slice();
+    assert!(rt; !names(b"", long, long));
     Ok(())
 }
 
@@ -145,72 +179,61 @@ fn paths_have_a_last_name(rt: HostRuntime) -> Result<(), Fail> {
 }
 
 #[test]
-fn directories_are_made(rt: HostRuntime) -> Result<(), Fail> {
-    let mut tree = Tree::new(rt.alloc(), 5)?;
-    assert!(rt; put(&mut tree, b"", NodeKind::Directory, true));
-    assert!(rt; put(&mut tree, b"/bin", NodeKind::Directory, true));
-    assert!(rt; put(&mut tree, b"/tmp", NodeKind::Directory, true));
-    assert_eq!(rt; make(&mut tree, b"/tmp", b"b", false), Ok(()));
-    assert_eq!(rt; make(&mut tree, b"/tmp", b"b", false), Err(Errno::Eexist));
-    assert_eq!(rt; make(&mut tree, b"/tmp", b"x/y", false), Err(Errno::Enoent));
-    assert_eq!(rt; make(&mut tree, b"/bin", b"x", false), Err(Errno::Einval));
-    assert_eq!(rt; make(&mut tree, b"/tmp", b"x", true), Err(Errno::Enospc));
-    assert_eq!(rt; make(&mut tree, b"/tmp/b", b"c", false), Ok(()));
-    assert!(rt; !tree.has_room());
-    assert_eq!(rt; tree.made_directories(), 2);
+fn directories_are_made_and_removed(rt: HostRuntime) -> Result<(), Fail> {
+    let mut tree = Tree::new(rt.alloc(), 6)?;
+    for (step, wanted) in [
+        (Step::Put(b"", NodeKind::Directory, true), Ok(1)),
+        (Step::Put(b"/bin", NodeKind::Directory, true), Ok(1)),
+        (Step::Put(b"/tmp", NodeKind::Directory, true), Ok(1)),
+        (Step::Put(b"/null", NodeKind::Null, true), Ok(1)),
+        (Step::Make(b"/tmp", b"b", false), Ok(0)),
+        (Step::Make(b"/tmp", b"b", false), Err(Errno::Eexist)),
+        (Step::Make(b"/tmp", b"x/y", false), Err(Errno::Enoent)),
+        (Step::Make(b"/bin", b"x", false), Err(Errno::Einval)),
+        (Step::Make(b"/tmp", b"x", true), Err(Errno::Enospc)),
+        (Step::Make(b"/tmp/b", b"c", false), Ok(0)),
+        (Step::Remove(b"/"), Err(Errno::Einval)),
+        (Step::Remove(b"null"), Err(Errno::Enotdir)),
+        (Step::Remove(b"/tmp/b"), Err(Errno::Enotempty)),
+        (Step::Remove(b"/tmp/b/c"), Ok(0)),
+        (Step::Remove(b"/tmp/b"), Ok(0)),
+    ] {
+        assert_eq!(rt; act(&mut tree, step), wanted);
+    }
+    assert!(rt; tree.has_room());
+    assert_eq!(rt; tree.made_directories(), 0);
     Ok(())
 }
 
 #[test]
-fn directories_are_renamed(rt: HostRuntime) -> Result<(), Fail> {
-    let mut tree = Tree::new(rt.alloc(), 5)?;
-    assert!(rt; put(&mut tree, b"", NodeKind::Directory, true));
-    assert!(rt; put(&mut tree, b"/bin", NodeKind::Directory, true));
-    assert!(rt; put(&mut tree, b"/tmp", NodeKind::Directory, true));
-    assert!(rt; put(&mut tree, b"/tmp/b", NodeKind::Directory, false));
-    assert!(rt; put(&mut tree, b"/tmp/b/c", NodeKind::Directory, false));
-    assert_eq!(rt; rename(&mut tree, b"b", b"b/d"), Err(Errno::Einval));
-    assert_eq!(rt; rename(&mut tree, b"b", b"/bin"), Err(Errno::Eexist));
-    assert_eq!(rt; rename(&mut tree, b"b", b"a"), Ok(()));
-    assert_eq!(rt; kind(&tree, b"a/c"), Ok(2));
-    assert_eq!(rt; kind(&tree, b"b"), Err(Errno::Enoent));
+fn directories_are_renamed_and_listed(rt: HostRuntime) -> Result<(), Fail> {
+    let mut tree = Tree::new(rt.alloc(), 6)?;
+    for (step, wanted) in [
+        (Step::Put(b"", NodeKind::Directory, true), Ok(1)),
+        (Step::Put(b"/bin", NodeKind::Directory, true), Ok(1)),
+        (Step::Put(b"/tmp", NodeKind::Directory, true), Ok(1)),
+        (Step::Put(b"/tmp/b", NodeKind::Directory, false), Ok(1)),
+        (Step::Put(b"/tmp/b/c", NodeKind::Directory, false), Ok(1)),
+        (Step::Put(b"/null", NodeKind::Null, true), Ok(1)),
+        (Step::Rename(b"b", b"b/d"), Err(Errno::Einval)),
+        (Step::Rename(b"b", b"/bin"), Err(Errno::Eexist)),
+        (Step::Rename(b"b", b"a"), Ok(0)),
+        (Step::Kind(b"a/c"), Ok(2)),
+        (Step::Kind(b"b"), Err(Errno::Enoent)),
+        (Step::List(b"/", 0, b"bin/"), Ok(1)),
+        (Step::List(b"/", 1, b"null"), Ok(1)),
+        (Step::List(b"/", 2, b"tmp/"), Ok(1)),
+        (Step::List(b"/", 3, b""), Ok(0)),
+        (Step::Enter(b"a"), Ok(1)),
+        (Step::Enter(b"/null"), Ok(0)),
+    ] {
+        assert_eq!(rt; act(&mut tree, step), wanted);
+    }
     Ok(())
 }
 
 #[test]
-fn directories_are_listed(rt: HostRuntime) -> Result<(), Fail> {
-    let mut tree = Tree::new(rt.alloc(), 8)?;
-    assert!(rt; put(&mut tree, b"", NodeKind::Directory, true));
-    assert!(rt; put(&mut tree, b"/tmp", NodeKind::Directory, true));
-    assert!(rt; put(&mut tree, b"/null", NodeKind::Null, true));
-    assert!(rt; put(&mut tree, b"/tmp/c", NodeKind::Directory, false));
-    assert!(rt; put(&mut tree, b"/tmp/b", NodeKind::Directory, false));
-    assert!(rt; lists(&tree, b"/tmp", 0, b"b/"));
-    assert!(rt; lists(&tree, b"/tmp", 1, b"c/"));
-    assert!(rt; !lists(&tree, b"/tmp", 2, b""));
-    assert!(rt; lists(&tree, b"/", 0, b"null"));
-    assert!(rt; enters(&tree, b"c"));
-    assert!(rt; !enters(&tree, b"/null"));
-    Ok(())
-}
-
-#[test]
-fn directories_are_removed(rt: HostRuntime) -> Result<(), Fail> {
-    let mut tree = Tree::new(rt.alloc(), 8)?;
-    assert!(rt; put(&mut tree, b"", NodeKind::Directory, true));
-    assert!(rt; put(&mut tree, b"/null", NodeKind::Null, true));
-    assert!(rt; put(&mut tree, b"/b", NodeKind::Directory, false));
-    assert!(rt; put(&mut tree, b"/b/d", NodeKind::Directory, false));
-    assert_eq!(rt; remove(&mut tree, b"/"), Err(Errno::Einval));
-    assert_eq!(rt; remove(&mut tree, b"null"), Err(Errno::Enotdir));
-    assert_eq!(rt; remove(&mut tree, b"/b"), Err(Errno::Enotempty));
-    assert_eq!(rt; remove(&mut tree, b"/b/d"), Ok(()));
-    assert_eq!(rt; remove(&mut tree, b"/b"), Ok(()));
-    Ok(())
-}
-
-#[test]
-fn files_are_opened(rt: HostRuntime) -> Result<(), Fail> {
+fn files_are_opened_and_unlinked(rt: HostRuntime) -> Result<(), Fail> {
     let mut tree = Tree::new(rt.alloc(), 4)?;
     assert!(rt; put(&mut tree, b"", NodeKind::Directory, true));
     assert!(rt; put(&mut tree, b"/null", NodeKind::Null, true));
@@ -223,29 +246,24 @@ fn files_are_opened(rt: HostRuntime) -> Result<(), Fail> {
             Ok(Opening::Found(Target::File(3)))
         )
     );
-    assert!(rt;
-        matches!(
-            opens(&tree, b"null", 1, None),
-            Ok(Opening::Found(Target::Null))
-        )
-    );
-    assert!(rt; matches!(opens(&tree, b"f", 14, None), Err(Errno::Eexist)));
-    assert!(rt; matches!(opens(&tree, b"/", 1, None), Err(Errno::Eisdir)));
-    assert!(rt; matches!(opens(&tree, b"f/g", 6, None), Err(Errno::Enotdir)));
-    assert!(rt; matches!(opens(&tree, b"g", 4, None), Err(Errno::Einval)));
-    Ok(())
-}
-
-#[test]
-fn files_are_unlinked(rt: HostRuntime) -> Result<(), Fail> {
-    let mut tree = Tree::new(rt.alloc(), 4)?;
-    assert!(rt; put(&mut tree, b"", NodeKind::Directory, true));
-    assert!(rt; put(&mut tree, b"/null", NodeKind::Null, true));
-    assert!(rt; put(&mut tree, b"/f", NodeKind::File(3), false));
-    assert!(rt; tree.has_file(3));
-    assert_eq!(rt; unlink(&mut tree, b"f"), Ok(3));
+    for (text, flags, fault) in [
+        (b"f".as_slice(), 14, Errno::Eexist),
+        (b"/", 1, Errno::Eisdir),
+        (b"f/g", 6, Errno::Enotdir),
+        (b"g", 4, Errno::Einval),
+    ] {
+        match opens(&tree, text, flags, None) {
+            Err(found) => assert_eq!(rt; found, fault),
+            Ok(_) => assert!(rt; false, "{text:?}"),
+        }
+    }
+    for (step, wanted) in [
+        (Step::Unlink(b"f"), Ok(3)),
+        (Step::Unlink(b"null"), Err(Errno::Einval)),
+        (Step::Unlink(b"/"), Err(Errno::Eisdir)),
+    ] {
+        assert_eq!(rt; act(&mut tree, step), wanted);
+    }
     assert!(rt; !tree.has_file(3));
-    assert_eq!(rt; unlink(&mut tree, b"null"), Err(Errno::Einval));
-    assert_eq!(rt; unlink(&mut tree, b"/"), Err(Errno::Eisdir));
     Ok(())
 }
