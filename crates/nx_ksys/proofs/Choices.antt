@@ -12,7 +12,7 @@ use Rattle.nx_ksys.specs.declared.pick.Pick.TheVariants.{Run, Ended}
 use Rattle.nx_ksys.specs.Threads.{deadline_of, is_ready, first_of}
 use Rattle.nx_ksys.specs.State.{KernelState}
 use Rattle.nx_ksys.specs.Picking.{Picked, next_late, passed, passed_if, advanced, runs, picked_after, picked}
-use Rattle.nx_ksys.specs.Told.{ThreadRow, waits_in, threads}
+use Rattle.nx_ksys.specs.ThreadTable.{ThreadRow, waits_in, threads}
 use Rattle.nx_ksys.specs.Soundness.{IsSound}
 use Rattle.nx_ksys.specs.TableLaws.{ready, after_replies, ChoicesStaySound, ChoicesChangeThreads}
 use Rattle.nx_ksys.proofs.Tables.{row_of, row_in, threads_are, thread_only}

@@ -19,7 +19,7 @@ use Rattle.nx_ksys.specs.State.{Group, Code, ThreadValue, KernelState, is_direct
 use Rattle.nx_ksys.specs.Paths.{resolved, node_at, parent_of, is_closed, is_in, has_children, nth_name, shown}
 use Rattle.nx_ksys.specs.Answers.{Caller, place_of, is_negative, word_at, input_at}
 use Rattle.nx_ksys.specs.TreeCalls.{unlink_kind, unlink_node, unlink_path, unlink_row, mkdir_node, mkdir_path, mkdir_row, rmdir_node, rmdir_path, rmdir_row, may_move, is_too_long, is_taken, rename_to, rename_second, rename_node, rename_path, rename_row, resolve, chdir_node, chdir_path, chdir_row, getcwd_row, listed_name, list_name, readdir_node, readdir_path, readdir_row, kind_node, kind_path, kind_row}
-use Rattle.nx_ksys.specs.Ends.{Told, has_child, has_any_child, is_code, is_any_code, and_lost, vanished, without_descriptors, left_alone, hand_over, told_parent, end_of, end_group, exit_row, gone, hand_value, thread_exit_row}
+use Rattle.nx_ksys.specs.Ends.{WithReplies, has_child, has_any_child, is_code, is_any_code, and_lost, vanished, without_descriptors, left_alone, hand_over, told_parent, end_of, end_group, exit_row, gone, hand_value, thread_exit_row}
 use Rattle.nx_ksys.specs.GroupCalls.{is_ended, spawn_priority, most_numbers, spawn_at, spawn_kind, spawn_node, spawn_path, spawn_row, wait_for, wait_child, waitpid_row, arg_out, arg_row, nth_group, status_of, ps_out, ps_row}
 use Rattle.nx_ksys.specs.ThreadCalls.{set_priority, setpriority_row, yield_row, thread_at, thread_row, is_value, may_join, join_live, join_value, join_row, errno_row}
 use Rattle.nx_ksys.specs.Step.{row_of, asked, counted, meant_call, called_in, called_by, called, step}
@@ -150,7 +150,7 @@ parent_stays code k = by_parent (code.parent == 0) (first_of (search.Parent code
     handed None = record { calls = refl; console = refl }
     handed (Some t) = record { calls = refl; console = refl }
 
-    by_parent : (b : Bool) (t : Option Thread) → Stays k (let told : Told = if b then record { to = k; replies = [] } else and_lost code.parent (hand_over k code t) in told).to
+    by_parent : (b : Bool) (t : Option Thread) → Stays k (let told : WithReplies = if b then record { to = k; replies = [] } else and_lost code.parent (hand_over k code t) in told).to
     by_parent true t = record { calls = refl; console = refl }
     by_parent false t = let h = handed t in record { calls = h.calls; console = h.console }
 

@@ -5,7 +5,7 @@ use Rattle.std.proofs.lemmas.Bool.{cases_eq}
 use Rattle.nx_ksys.specs.declared.thread.Thread.{Thread}
 use Rattle.nx_ksys.specs.State.{Group}
 use Rattle.nx_ksys.specs.Ends.{without_group, nobodys, without_thread}
-use Rattle.nx_ksys.specs.Told.{ThreadRow}
+use Rattle.nx_ksys.specs.ThreadTable.{ThreadRow}
 use Rattle.nx_ksys.specs.Soundness.{Stands, IsSoundThread, IsSoundGroup, AreSound}
 use Rattle.nx_ksys.specs.TableLaws.{Table, set_at, unless_in, without}
 use Rattle.nx_ksys.proofs.Standing.{same_option, some_same, none_some, map_stood, map_stands, set_same, set_other, within, length_map, length_set, ne_from, ne_to}

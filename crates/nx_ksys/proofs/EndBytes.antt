@@ -17,7 +17,7 @@ use Rattle.nx_ksys.specs.Telling.{reply, failure}
 use Rattle.nx_ksys.specs.Threads.{Schedule, flat, awaited, deadline_of, first_of, wake, with_error, Woken, none_woken, woken_then, woken_with, woken_failing}
 use Rattle.nx_ksys.specs.State.{Group, Code, ThreadValue, Ending, KernelState}
 use Rattle.nx_ksys.specs.Answers.{Caller, int_out}
-use Rattle.nx_ksys.specs.Ends.{Told, told_by, first_lost, refuse_first, refuse_lost, and_lost, without_group, vanished, without_descriptors, nobodys, left_alone, recorded, hand_over, told_parent, end_of, end_group, exit_row, without_thread, gone, hand_value, end_thread, thread_exit_row}
+use Rattle.nx_ksys.specs.Ends.{WithReplies, told_by, first_lost, refuse_first, refuse_lost, and_lost, without_group, vanished, without_descriptors, nobodys, left_alone, recorded, hand_over, told_parent, end_of, end_group, exit_row, without_thread, gone, hand_value, end_thread, thread_exit_row}
 use Rattle.nx_ksys.specs.Picking.{timed_out, first_due, wake_first, wake_due, next_late, passed, passed_if, advanced, Picked, picked_after, picked}
 use Rattle.nx_ksys.specs.Soundness.{Stands}
 use Rattle.nx_ksys.specs.ByteLaws.{Each, EachStanding, IsGroupOfBytes, IsThreadOfBytes, IsCodeOfWord, IsOfBytes, IsTold}
@@ -82,14 +82,14 @@ due_bytes time (suc n) s h = by_thread (first_due time s) (λ r g. due_bytes tim
 
 -- ---- ends
 
-record TellsBytes (told : Told) : Type 0 where
+record TellsBytes (told : WithReplies) : Type 0 where
   kept : IsOfBytes told.to
   replies : Each IsTold told.replies
 
 woken_tells : (k : KernelState) (w : Woken) → IsOfBytes k → WakesBytes w → TellsBytes (told_by k w)
 woken_tells k w b h = record { kept = with_threads_bytes k w.sched.threads b h.threads; replies = h.told }
 
-lost_tells : (parent : ℕ) (told : Told) → TellsBytes told → TellsBytes (and_lost parent told)
+lost_tells : (parent : ℕ) (told : WithReplies) → TellsBytes told → TellsBytes (and_lost parent told)
 lost_tells parent told h =
     let l = told.to in
     let w = refuse_lost l.groups l.codes parent (length l.sched.threads) l.sched in

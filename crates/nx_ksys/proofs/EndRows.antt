@@ -9,8 +9,8 @@ use Rattle.nx_ksys.specs.declared.thread.Search.TheVariants as search
 use Rattle.nx_ksys.specs.Threads.{flat, awaited, first_of, Woken, woken_with}
 use Rattle.nx_ksys.specs.State.{Group, Code, ThreadValue, Ending, KernelState}
 use Rattle.nx_ksys.specs.Answers.{Stays, Caller, int_out}
-use Rattle.nx_ksys.specs.Ends.{Told, told_by, and_lost, refuse_lost, without_group, vanished, without_descriptors, nobodys, left_alone, recorded, hand_over, told_parent, end_of, end_group, exit_row, without_thread, gone, hand_value, end_thread, thread_exit_row}
-use Rattle.nx_ksys.specs.Told.{ThreadRow}
+use Rattle.nx_ksys.specs.Ends.{WithReplies, told_by, and_lost, refuse_lost, without_group, vanished, without_descriptors, nobodys, left_alone, recorded, hand_over, told_parent, end_of, end_group, exit_row, without_thread, gone, hand_value, end_thread, thread_exit_row}
+use Rattle.nx_ksys.specs.ThreadTable.{ThreadRow}
 use Rattle.nx_ksys.specs.Soundness.{IsSound}
 use Rattle.nx_ksys.specs.TableLaws.{set_at, after_replies, unless_in, without, is_last}
 use Rattle.nx_ksys.proofs.Standing.{eq_to, ne_from, length_map}
@@ -21,7 +21,7 @@ use Rattle.nx_ksys.proofs.FileRows.{all_closed_keeps}
 use Rattle.nx_ksys.proofs.Owing.{tab, tab_at, sound_at, Calls, IsReady, Owes, caller_row}
 
 -- a state with replies, each of which was due
-pub record Tells (k : KernelState) (told : Told) : Type 0 where
+pub record Tells (k : KernelState) (told : WithReplies) : Type 0 where
   pub sound : IsSound told.to
   pub fit : AreFit (tab k) told.replies
   pub table : tab told.to ≡ after_replies (tab k) told.replies
@@ -34,7 +34,7 @@ pub tells_woken : (k : KernelState) (w : Woken) → Wakes k.groups k.numbers k.s
 tells_woken k w h = record { sound = h.sound; fit = h.fit; table = h.table; slots = h.slots }
 
 -- and then those that wait for no child any more
-lost_told : (k : KernelState) (parent : ℕ) (told : Told) → Tells k told → Tells k (and_lost parent told)
+lost_told : (k : KernelState) (parent : ℕ) (told : WithReplies) → Tells k told → Tells k (and_lost parent told)
 lost_told k parent told h =
     let l = told.to in
     let w = refuse_lost l.groups l.codes parent (length l.sched.threads) l.sched in
@@ -83,7 +83,7 @@ has_ended k place g e =
     }
 
 -- the end of the caller's group, in a table without it
-pub record EndsIn (k : KernelState) (g : Group) (told : Told) : Type 0 where
+pub record EndsIn (k : KernelState) (g : Group) (told : WithReplies) : Type 0 where
   pub sound : IsSound told.to
   pub fit : AreFit (without (tab k) g.number) told.replies
   pub table : tab told.to ≡ after_replies (without (tab k) g.number) told.replies

@@ -20,7 +20,7 @@ use Rattle.nx_ksys.specs.Paths.{resolved, node_at, parent_of, is_closed}
 use Rattle.nx_ksys.specs.Descriptors.{may_read, may_write, creates, is_exclusive, truncates, Opened, opened, description_at, free_descriptor, is_held, swept_target, without_open, released, closed_as, closed, closed_from}
 use Rattle.nx_ksys.specs.Answers.{Caller}
 use Rattle.nx_ksys.specs.FileCalls.{with_open, Written, written_at, write_place, file_written, write_file, write_console, write_target, is_stream, write_some, write_opened, write_row, read_file, read_target, read_opened, read_row, describe_at, describe, describe_new, emptied, open_kind, with_new_file, create_at, create, open_found, open_path, open_row, close_at, close_row, seek_from, sought, seek_to, seek_file, seek_target, seek_opened, lseek_row, dup_at, dup_of, dup_row, dup2_of, dup2_row}
-use Rattle.nx_ksys.specs.Told.{ThreadRow}
+use Rattle.nx_ksys.specs.ThreadTable.{ThreadRow}
 use Rattle.nx_ksys.proofs.Owing.{Keeps, keeps_refl, keeps_on, keeps_either, keeps_same, Calls, Lawful, Takes, either, answers, plain, fails_after, fails}
 
 -- ---- descriptors

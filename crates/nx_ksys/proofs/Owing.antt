@@ -17,7 +17,7 @@ use Rattle.nx_ksys.specs.Telling.{both, reply, failure}
 use Rattle.nx_ksys.specs.Threads.{thread_of, changed, change_thread, with_error, block}
 use Rattle.nx_ksys.specs.State.{Group, KernelState}
 use Rattle.nx_ksys.specs.Answers.{Stays, Stepped, Caller, with_errno, replied, failed, waits, text_out}
-use Rattle.nx_ksys.specs.Told.{WaitingCall, ThreadRow}
+use Rattle.nx_ksys.specs.ThreadTable.{WaitingCall, ThreadRow}
 use Rattle.nx_ksys.specs.Soundness.{Stands, Agrees, AreSound, IsSound}
 use Rattle.nx_ksys.specs.TableLaws.{Table, set_at, waiting, ready, made_ready, after_replies, after_effect, kinds_in, IsAllowed}
 use Rattle.nx_ksys.proofs.Standing.{some_same, length_map}

@@ -5,7 +5,7 @@ use Rattle.std.specs.Prelude.{slice_get, slice_set}
 use Rattle.std.proofs.lemmas.Bool.{cases_eq}
 use Rattle.nx_ksys.specs.declared.thread.Thread.{Thread}
 use Rattle.nx_ksys.specs.State.{Group}
-use Rattle.nx_ksys.specs.Told.{ThreadRow}
+use Rattle.nx_ksys.specs.ThreadTable.{ThreadRow}
 use Rattle.nx_ksys.specs.Soundness.{Stands, AreSound}
 use Rattle.nx_ksys.proofs.Standing.{same_option, some_same, set_same, set_other, set_stood, within}
 use Rattle.nx_ksys.proofs.Tables.{row_at, table_of, Entry, entry_of, entry_stands}

@@ -10,7 +10,7 @@ use Rattle.nx_ksys.specs.State.{Limits, KernelState, free_blocks}
 use Rattle.nx_ksys.specs.Boot.{booted}
 use Rattle.nx_ksys.specs.Step.{step}
 use Rattle.nx_base.specs.ByteLists.{to_le}
-use Rattle.nx_ksys.specs.Told.{threads}
+use Rattle.nx_ksys.specs.ThreadTable.{threads}
 use Rattle.nx_ksys.specs.Ends.{first_lost, vanished, without_descriptors, left_alone, told_parent, end_group, exit_row}
 use Rattle.nx_ksys.specs.Threads.{thread_of, slot_of, first_of, change_thread, wake, block, with_error}
 use Rattle.nx_ksys.specs.Paths.{normal, node_at, resolved}

@@ -20,7 +20,7 @@ use Rattle.nx_ksys.specs.Paths.{resolved, node_at, last_part}
 use Rattle.nx_ksys.specs.Answers.{Start, Begins, Caller, group_of, failed}
 use Rattle.nx_ksys.specs.GroupCalls.{arguments_of, is_ended, spawn_priority, most_numbers, nothing_asked, with_new_thread, with_new_group, has_program, is_fresh, spawned, spawn_at, spawn_kind, spawn_node, spawn_path, spawn_row}
 use Rattle.nx_ksys.specs.ThreadCalls.{thread_at, thread_row}
-use Rattle.nx_ksys.specs.Told.{ThreadRow, program_of}
+use Rattle.nx_ksys.specs.ThreadTable.{ThreadRow, program_of}
 use Rattle.nx_ksys.specs.Soundness.{IsSound}
 use Rattle.nx_ksys.specs.TableLaws.{set_at, waiting, ready, after_replies, started_row, IsStart}
 use Rattle.nx_ksys.proofs.Standing.{some_same, none_some, off_on, set_same, set_other, set_stood, within, length_set, free_place, eq_to, ne_to}

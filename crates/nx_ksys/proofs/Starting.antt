@@ -7,7 +7,7 @@ use Rattle.nx_ksys.specs.Threads.{awaited}
 use Rattle.nx_ksys.specs.State.{Group}
 use Rattle.nx_ksys.specs.GroupCalls.{most_numbers}
 use Rattle.nx_ksys.specs.Boot.{booted, shell, shell_thread, with_places}
-use Rattle.nx_ksys.specs.Told.{ThreadRow}
+use Rattle.nx_ksys.specs.ThreadTable.{ThreadRow}
 use Rattle.nx_ksys.specs.Soundness.{Stands, Agrees, IsSoundThread, IsSoundGroup, AreSound}
 use Rattle.nx_ksys.specs.TableLaws.{set_at, BootIsSound}
 use Rattle.nx_ksys.proofs.Standing.{same_option, some_same, none_some, set_same, set_other, set_stood, within, length_set}

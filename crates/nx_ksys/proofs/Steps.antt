@@ -12,7 +12,7 @@ use Rattle.nx_ksys.specs.Threads.{flat, is_numbered, thread_of}
 use Rattle.nx_ksys.specs.State.{Group, KernelState}
 use Rattle.nx_ksys.specs.Answers.{Effect, Stays, EndsGroup, Begins, Stepped, Caller, place_of, silent, word_at, input_at}
 use Rattle.nx_ksys.specs.Step.{without_pointers, meant_call, row_of, asked, counted, called_in, called_by, called, step}
-use Rattle.nx_ksys.specs.Told.{ThreadRow, threads}
+use Rattle.nx_ksys.specs.ThreadTable.{ThreadRow, threads}
 use Rattle.nx_ksys.specs.Soundness.{Stands, IsSound}
 use Rattle.nx_ksys.specs.TableLaws.{Table, set_at, waiting, ready, waiting_call, is_last, asking, before_replies, after_effect, after_replies, kinds_in, IsStart, IsAllowed, IsStep, CallsStaySound, CallsChangeThreads, NumbersWereGiven, SlotsDiffer, SameMeaningSameStep, NobodysCallIsSilent}
 use Rattle.nx_ksys.proofs.Meaning.{pointers_mean_nothing}

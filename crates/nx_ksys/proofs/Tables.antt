@@ -10,7 +10,7 @@ use Rattle.nx_ksys.specs.declared.thread.Thread.{Thread}
 use Rattle.nx_ksys.specs.Threads.{flat, is_numbered, thread_of, slot_of, changed, change_thread, awaited}
 use Rattle.nx_ksys.specs.State.{Group, KernelState}
 use Rattle.nx_ksys.specs.Answers.{is_group, place_of, group_of}
-use Rattle.nx_ksys.specs.Told.{ThreadRow, waits_in, program_of, slot_or, threads}
+use Rattle.nx_ksys.specs.ThreadTable.{ThreadRow, waits_in, program_of, slot_or, threads}
 use Rattle.nx_ksys.specs.Soundness.{Stands, Agrees, IsSoundGroup, AreSound}
 use Rattle.nx_ksys.specs.TableLaws.{Table, set_at, ready, made_ready, after_replies}
 use Rattle.nx_ksys.proofs.Standing.{some_same, none_some, map_stood, map_stands, found_at, only_found, find_map, position_map, length_map, eq_from, eq_to, ne_to}

@@ -17,7 +17,7 @@ use Rattle.nx_ksys.specs.Answers.{Caller, int_out, is_negative}
 use Rattle.nx_ksys.specs.Ends.{has_child, has_any_child, is_code, is_any_code}
 use Rattle.nx_ksys.specs.GroupCalls.{without_code, wait_for, wait_child, waitpid_row, arg_out, arg_row, nth_group, status_of, ps_out, ps_row}
 use Rattle.nx_ksys.specs.ThreadCalls.{at_the_end, prioritised, set_priority, setpriority_row, yielded, yield_row, is_value, may_join, join_live, join_value, join_row, errno_row}
-use Rattle.nx_ksys.specs.Told.{ThreadRow, waits_in}
+use Rattle.nx_ksys.specs.ThreadTable.{ThreadRow, waits_in}
 use Rattle.nx_ksys.specs.Soundness.{IsAsked, Agrees}
 use Rattle.nx_ksys.proofs.Standing.{length_map}
 use Rattle.nx_ksys.proofs.Tables.{table_kept, sound_changed}

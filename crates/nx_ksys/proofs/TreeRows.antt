@@ -10,7 +10,7 @@ use Rattle.nx_ksys.specs.State.{KernelState, is_directory, objects}
 use Rattle.nx_ksys.specs.Paths.{node_at, parent_of, is_closed, is_in, has_children, nth_name, shown}
 use Rattle.nx_ksys.specs.Answers.{Caller, is_negative}
 use Rattle.nx_ksys.specs.TreeCalls.{unlink_kind, unlink_node, unlink_path, unlink_row, mkdir_node, mkdir_path, mkdir_row, rmdir_node, rmdir_path, rmdir_row, may_move, is_too_long, is_taken, rename_to, rename_second, rename_node, rename_path, rename_row, resolve, chdir_node, chdir_path, chdir_row, getcwd_row, listed_name, list_name, readdir_node, readdir_path, readdir_row, kind_node, kind_path, kind_row}
-use Rattle.nx_ksys.specs.Told.{ThreadRow}
+use Rattle.nx_ksys.specs.ThreadTable.{ThreadRow}
 use Rattle.std.specs.Prelude.{slice_set}
 use Rattle.std.proofs.Common.{◌∷◌}
 use Rattle.nx_ksys.specs.TreeCalls.{with_group}

@@ -25,7 +25,7 @@ use Rattle.nx_ksys.specs.State.{Group, Code, KernelState}
 use Rattle.nx_ksys.specs.Answers.{int_out}
 use Rattle.nx_ksys.specs.Ends.{is_lost_wait, is_lost, first_lost, refuse_first, refuse_lost}
 use Rattle.nx_ksys.specs.Picking.{timed_out, if_due, first_due, wake_first, wake_due}
-use Rattle.nx_ksys.specs.Told.{WaitingCall, ThreadRow, waits_in, threads}
+use Rattle.nx_ksys.specs.ThreadTable.{WaitingCall, ThreadRow, waits_in, threads}
 use Rattle.nx_ksys.specs.Soundness.{Stands, IsAsked, Agrees, AreSound}
 use Rattle.nx_ksys.specs.TableLaws.{Table, set_at, waiting, ready, made_ready, after_replies, kinds_in, AreDue}
 use Rattle.nx_ksys.proofs.Standing.{none_some, best_has, length_map}

@@ -49,7 +49,7 @@ unfoldable pub first_lost : List (Option Group) → List Code → ℕ → Schedu
 first_lost groups codes parent s = best_from (is_lost groups codes parent) comes_before None s.threads
 
 -- a state with replies
-pub record Told : Type 0 where
+pub record WithReplies : Type 0 where
   pub to : KernelState
   pub replies : List Reply
 
@@ -63,13 +63,13 @@ refuse_lost groups codes parent zero s = none_woken s
 refuse_lost groups codes parent (suc n) s = refuse_first s (refuse_lost groups codes parent n) (first_lost groups codes parent s)
 
 -- and then those of a group that wait for no child any more
-abbrev pub and_lost : ℕ → Told → Told
+abbrev pub and_lost : ℕ → WithReplies → WithReplies
 and_lost parent told =
     let w = refuse_lost told.to.groups told.to.codes parent (length told.to.sched.threads) told.to.sched in
     record { to = record told.to { sched = w.sched }; replies = told.replies ++ w.replies }
 
 -- the state after threads went on
-abbrev pub told_by : KernelState → Woken → Told
+abbrev pub told_by : KernelState → Woken → WithReplies
 told_by k w = record { to = record k { sched = w.sched }; replies = w.replies }
 
 -- ---- the end of a group
@@ -112,23 +112,23 @@ abbrev pub recorded : Ending → KernelState → KernelState
 recorded e k = record k { ended = k.ended ++ e ∷ [] }
 
 -- the first of the parent's threads that wait for it takes its code; without one the code is kept
-abbrev pub hand_over : KernelState → Code → Option Thread → Told
+abbrev pub hand_over : KernelState → Code → Option Thread → WithReplies
 hand_over k code None = record { to = record k { codes = k.codes ++ code ∷ [] }; replies = [] }
 hand_over k code (Some t) = told_by k (woken_with k.sched t code.child (int_out code.code ∷ []))
 
-unfoldable pub told_parent : Code → KernelState → Told
+unfoldable pub told_parent : Code → KernelState → WithReplies
 told_parent code k =
     if code.parent == 0 then record { to = k; replies = [] }
     else and_lost code.parent (hand_over k code (first_of (search.Parent code.parent code.child) k.sched.threads))
 
-abbrev pub end_of : KernelState → ℕ → ℕ → Option Group → Told
+abbrev pub end_of : KernelState → ℕ → ℕ → Option Group → WithReplies
 end_of k place code None = record { to = k; replies = [] }
 end_of k place code (Some g) =
     told_parent (record { parent = g.parent; child = g.number; code = code })
     (recorded (record { pid = g.number; name = g.program; code = code }) (left_alone place g.number (without_descriptors place (vanished g.number k))))
 
 -- the group at a place ends with a code
-unfoldable pub end_group : KernelState → ℕ → ℕ → Told
+unfoldable pub end_group : KernelState → ℕ → ℕ → WithReplies
 end_group k place code = end_of k place code (flat (slice_get k.groups place))
 
 -- the caller's group ends, with a value modulo 256
@@ -148,11 +148,11 @@ abbrev pub gone : KernelState → ℕ → KernelState
 gone k number = with_threads k (map (without_thread number) k.sched.threads)
 
 -- a thread that waits for it takes its value; without one the value is kept
-abbrev pub hand_value : KernelState → ThreadValue → Option Thread → Told
+abbrev pub hand_value : KernelState → ThreadValue → Option Thread → WithReplies
 hand_value k v None = record { to = record k { values = k.values ++ v ∷ [] }; replies = [] }
 hand_value k v (Some t) = told_by k (woken_with k.sched t 0 (int_out v.value ∷ []))
 
-abbrev pub end_thread : KernelState → Caller → ℕ → Told
+abbrev pub end_thread : KernelState → Caller → ℕ → WithReplies
 end_thread k c value =
     hand_value (gone k c.thread.number) (record { group = c.group.number; thread = c.thread.number; value = value })
     (first_of (search.Joiner c.thread.number) (gone k c.thread.number).sched.threads)

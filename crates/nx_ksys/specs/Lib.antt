@@ -11,7 +11,7 @@ pub mod GroupCalls
 pub mod ThreadCalls
 pub mod Step
 pub mod Picking
-pub mod Told
+pub mod ThreadTable
 pub mod Boot
 pub mod Gathered
 pub mod Laws

@@ -12,7 +12,7 @@ use Rattle.nx_ksys.specs.declared.pick.Pick.{Pick}
 use Rattle.nx_ksys.specs.declared.pick.Pick.TheVariants.{Run, Idle, Ended}
 use Rattle.nx_ksys.specs.Threads.{Schedule, awaited, deadline_of, first_of, Woken, none_woken, woken_then, woken_with, woken_failing}
 use Rattle.nx_ksys.specs.State.{KernelState}
-use Rattle.nx_ksys.specs.Ends.{Told, told_by}
+use Rattle.nx_ksys.specs.Ends.{WithReplies, told_by}
 
 -- a sleeping thread goes on; the wait of any other that has a deadline fails
 abbrev pub timed_out : Schedule → Thread → Option Wait → Woken
@@ -41,19 +41,19 @@ next_late [] = 0
 next_late (n ∷ ns) = n
 
 -- time becomes a deadline and the next lateness
-abbrev pub passed_to : KernelState → ℕ → Told
+abbrev pub passed_to : KernelState → ℕ → WithReplies
 passed_to k time = told_by (record k { time = time; late = drop 1 k.late }) (wake_due time (length k.sched.threads) k.sched)
 
-abbrev pub passed : KernelState → Option Thread → Told
+abbrev pub passed : KernelState → Option Thread → WithReplies
 passed k None = record { to = k; replies = [] }
 passed k (Some t) = passed_to k (deadline_of t.doing + next_late k.late)
 
-abbrev pub passed_if : KernelState → Option Thread → Told
+abbrev pub passed_if : KernelState → Option Thread → WithReplies
 passed_if k (Some t) = record { to = k; replies = [] }
 passed_if k None = passed k (first_of search.Timed k.sched.threads)
 
 -- where no thread is ready, time passes to the first deadline
-unfoldable pub advanced : KernelState → Told
+unfoldable pub advanced : KernelState → WithReplies
 advanced k = passed_if k (first_of search.Ready k.sched.threads)
 
 -- what runs next, in the kernel after the time passed, with the replies of those that woke
@@ -66,7 +66,7 @@ abbrev pub runs : Option Thread → Pick
 runs None = Idle
 runs (Some t) = Run t.number
 
-abbrev pub picked_after : Told → Picked
+abbrev pub picked_after : WithReplies → Picked
 picked_after told = record { to = told.to; replies = told.replies; pick = runs (first_of search.Ready told.to.sched.threads) }
 
 -- with no group left the run is ended, before all else

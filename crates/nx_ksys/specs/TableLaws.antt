@@ -12,7 +12,7 @@ use Rattle.nx_ksys.specs.Answers.{Start, Effect, Stays, EndsGroup, Begins, Stepp
 use Rattle.nx_ksys.specs.Step.{meant_words, counted, step}
 use Rattle.nx_ksys.specs.Picking.{Picked, picked}
 use Rattle.nx_ksys.specs.Boot.{booted}
-use Rattle.nx_ksys.specs.Told.{WaitingCall, ThreadRow, threads}
+use Rattle.nx_ksys.specs.ThreadTable.{WaitingCall, ThreadRow, threads}
 use Rattle.nx_ksys.specs.Soundness.{IsSound}
 
 -- threads by number

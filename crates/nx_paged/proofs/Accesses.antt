@@ -9,7 +9,7 @@ use Rattle.nx_sv32.specs.Walk.{ram_start, walk, or_fault}
 use Rattle.nx_sv32.specs.declared.sv32.PageFault.{PageFault}
 use Rattle.nx_tables.specs.Maps.{satp_of, lets}
 use Rattle.nx_tables.specs.Roles.{Role}
-use Rattle.nx_tables.specs.Seen.{seen}
+use Rattle.nx_tables.specs.ViewBytes.{seen}
 use Rattle.nx_space.specs.World.{Part, IsEntered, group_in, seen_by}
 use Rattle.nx_space.specs.Places.{place_in}
 use Rattle.nx_space.proofs.Windows.{bytes_at}

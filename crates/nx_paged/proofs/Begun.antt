@@ -15,7 +15,7 @@ use Rattle.nx_frames.proofs.Chains.{length-chain}
 use Rattle.nx_sv32.specs.Walk.{ram_start}
 use Rattle.nx_tables.specs.Maps.{Maps}
 use Rattle.nx_tables.specs.Roles.{Role, Free, is_of, SameRoles, Stands}
-use Rattle.nx_tables.specs.Seen.{IsMapped}
+use Rattle.nx_tables.specs.ViewBytes.{IsMapped}
 use Rattle.nx_tables.proofs.Kept.{same_number, other_number, of_one, table_is_of, stands_kept}
 use Rattle.nx_tables.proofs.Views.{seen_kept}
 use Rattle.nx_space.specs.World.{MemoryMap}

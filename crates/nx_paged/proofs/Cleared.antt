@@ -4,7 +4,7 @@ use Rattle.std.specs.Prelude.{if◌then◌else◌, slice_set, slice_index_or}
 use Rattle.nx_base.specs.ByteLists.{put_bytes}
 use Rattle.nx_frames.specs.Stock.{AreHeld}
 use Rattle.nx_tables.specs.Maps.{Maps, satp_of}
-use Rattle.nx_tables.specs.Seen.{seen, IsMapped}
+use Rattle.nx_tables.specs.ViewBytes.{seen, IsMapped}
 use Rattle.nx_tables.proofs.Kept.{same_number, leaf_is_of, of_one}
 use Rattle.nx_space.specs.World.{Own, World, MemoryMap, group_of}
 use Rattle.nx_space.specs.Places.{Place, place_in, written_at, with_own, put_into}

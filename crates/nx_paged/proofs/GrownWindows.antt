@@ -7,7 +7,7 @@ use Rattle.nx_base.specs.declared.access.Access.TheVariants.{Load}
 use Rattle.nx_sv32.specs.Walk.{walk}
 use Rattle.nx_tables.specs.Maps.{satp_of}
 use Rattle.nx_tables.specs.Roles.{Role, Leaf, is_table}
-use Rattle.nx_tables.specs.Seen.{byte_by, seen, PageAt, IsMapped}
+use Rattle.nx_tables.specs.ViewBytes.{byte_by, seen, PageAt, IsMapped}
 use Rattle.nx_tables.proofs.Kept.{leaf_is_of}
 use Rattle.nx_tables.proofs.Views.{get-seen, byte_mapped, seen_alike}
 use Rattle.nx_space.specs.World.{Own, Part, Group, MemoryMap}

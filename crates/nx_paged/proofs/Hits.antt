@@ -9,7 +9,7 @@ use Rattle.nx_base.specs.declared.access.Access.TheVariants.{Load}
 use Rattle.nx_sv32.specs.Walk.{ram_start, walk}
 use Rattle.nx_tables.specs.Maps.{Maps, satp_of, translated, lets}
 use Rattle.nx_tables.specs.Roles.{Role, Stands}
-use Rattle.nx_tables.specs.Seen.{byte_by, seen, PageAt, IsMapped}
+use Rattle.nx_tables.specs.ViewBytes.{byte_by, seen, PageAt, IsMapped}
 use Rattle.nx_tables.proofs.Walked.{walk_mapped}
 use Rattle.nx_tables.proofs.Views.{get-seen, byte_mapped}
 use Rattle.nx_space.specs.World.{Own, Part}

@@ -4,7 +4,7 @@ use Rattle.std.specs.Prelude.{if◌then◌else◌, nat_le, ◌&&◌}
 use Rattle.std.proofs.lemmas.Bool.{cases_eq, cases_lt}
 use Rattle.std.proofs.lemmas.Bool.Decides.{nat_tests}
 use Rattle.nx_tables.specs.Maps.{Page, Maps}
-use Rattle.nx_tables.specs.Seen.{PageAt}
+use Rattle.nx_tables.specs.ViewBytes.{PageAt}
 use Rattle.nx_space.specs.Starts.{pages_of}
 use Rattle.nx_paged.specs.Spans.{Span, Each, span_of, covers, first_span}
 use Rattle.nx_paged.specs.Building.{Entry, entries_from, look, right_of}

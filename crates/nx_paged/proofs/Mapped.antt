@@ -8,7 +8,7 @@ use Rattle.nx_ram.specs.declared.prog_image.ProgImage.{ProgImage}
 use Rattle.nx_sv32.specs.Walk.{ram_start}
 use Rattle.nx_tables.specs.Maps.{Maps, satp_of}
 use Rattle.nx_tables.specs.Roles.{Role, Free, Root, Table, Leaf, is_table, is_of, Stands}
-use Rattle.nx_tables.specs.Seen.{seen, IsMapped}
+use Rattle.nx_tables.specs.ViewBytes.{seen, IsMapped}
 use Rattle.nx_tables.proofs.Kept.{leaf_is_of}
 use Rattle.nx_tables.proofs.Views.{length-seen, get-seen, byte_mapped, seen_by_frames}
 use Rattle.nx_space.specs.Starts.{pages_of, paged}

@@ -10,7 +10,7 @@ use Rattle.nx_frames.proofs.Owners.{taken_held, held_back}
 use Rattle.nx_sv32.specs.Walk.{ram_start}
 use Rattle.nx_tables.specs.Maps.{satp_of}
 use Rattle.nx_tables.specs.Roles.{Role, Free, is_of}
-use Rattle.nx_tables.specs.Seen.{seen}
+use Rattle.nx_tables.specs.ViewBytes.{seen}
 use Rattle.nx_space.specs.World.{Own, Part, Group, MemoryMap}
 use Rattle.nx_space.specs.Starts.{pages_of, paged, area_of, areas_of, own_parts, frames_for, started, but_outside}
 use Rattle.nx_paged.specs.Spans.{Each, span_of, spans_of, parts_from, span_bytes}

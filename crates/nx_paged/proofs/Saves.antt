@@ -11,7 +11,7 @@ use Rattle.nx_ram.proofs.Puts.{small_put, small_number}
 use Rattle.nx_sv32.specs.Walk.{ram_start, walk}
 use Rattle.nx_tables.specs.Maps.{Maps, satp_of, translated}
 use Rattle.nx_tables.specs.Roles.{Role, Leaf, Stands}
-use Rattle.nx_tables.specs.Seen.{PageAt, IsMapped}
+use Rattle.nx_tables.specs.ViewBytes.{PageAt, IsMapped}
 use Rattle.nx_tables.proofs.Kept.{leaf_is_of}
 use Rattle.nx_tables.proofs.Walked.{walk_mapped}
 use Rattle.nx_tables.proofs.Views.{page_written, seen_put, seen_other}

@@ -11,7 +11,7 @@ use Rattle.nx_sv32.specs.Walk.{ram_start, walk, or_fault}
 use Rattle.nx_sv32.specs.declared.sv32.PageFault.{PageFault}
 use Rattle.nx_tables.specs.Maps.{Maps, translated}
 use Rattle.nx_tables.specs.Roles.{Role}
-use Rattle.nx_tables.specs.Seen.{seen, PageAt}
+use Rattle.nx_tables.specs.ViewBytes.{seen, PageAt}
 use Rattle.nx_tables.proofs.Walked.{walk_mapped}
 use Rattle.nx_tables.proofs.Kept.{byte_elsewhere}
 use Rattle.nx_tables.proofs.Views.{length-seen, page_written, seen_put}

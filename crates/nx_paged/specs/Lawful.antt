@@ -8,7 +8,7 @@ use Rattle.nx_base.specs.ByteLists.{AreBytes}
 use Rattle.nx_base.specs.declared.access.Access.TheVariants.{Load}
 use Rattle.nx_sv32.specs.Walk.{ram_start, walk}
 use Rattle.nx_tables.specs.Maps.{satp_of}
-use Rattle.nx_tables.specs.Seen.{byte_by, seen}
+use Rattle.nx_tables.specs.ViewBytes.{byte_by, seen}
 use Rattle.nx_space.specs.World.{Home, Common, Own, Group, MemoryMap, has_view, group_of, bytes_in, seen_by}
 use Rattle.nx_space.specs.Lawful.{IsApartFrom, AreParts, AreOwn, AreNumbered, IsAlone, IsWorld}
 use Rattle.nx_space.specs.Starts.{frames_for, needs}

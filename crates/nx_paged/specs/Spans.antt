@@ -3,7 +3,7 @@ use Rattle.std.specs.Prelude.{◌≡◌, ℕ, ◌+◌, ◌*◌, ◌/◌, ◌%◌
 use Rattle.nx_space.specs.World.{Own, Part, MemoryMap}
 use Rattle.nx_space.specs.Starts.{program_at, stack_low, pages_of}
 use Rattle.nx_tables.specs.Maps.{Maps, satp_of}
-use Rattle.nx_tables.specs.Seen.{seen, IsMapped}
+use Rattle.nx_tables.specs.ViewBytes.{seen, IsMapped}
 
 -- a window of whole pages, which may be written, or else run
 pub record Span : Type 0 where

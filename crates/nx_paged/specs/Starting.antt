@@ -7,7 +7,7 @@ use Rattle.nx_frames.specs.Chains.{AreOnce}
 use Rattle.nx_sv32.specs.Walk.{ram_start}
 use Rattle.nx_tables.specs.Maps.{Maps, satp_of}
 use Rattle.nx_tables.specs.Roles.{Role, Free, is_of, Stands}
-use Rattle.nx_tables.specs.Seen.{seen, IsMapped}
+use Rattle.nx_tables.specs.ViewBytes.{seen, IsMapped}
 use Rattle.nx_space.specs.Starts.{pages_of, different, paged}
 use Rattle.nx_paged.specs.Spans.{Span, Each, span_of, first_span}
 use Rattle.nx_paged.specs.Paging.{IsLaidOut, FrameAt}

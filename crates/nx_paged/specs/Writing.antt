@@ -3,7 +3,7 @@ use Rattle.std.specs.Prelude.{◌≡◌, ◌≢◌, ℕ, ◌+◌, ◌*◌, ◌%�
 use Rattle.nx_base.specs.ByteLists.{put_bytes}
 use Rattle.nx_tables.specs.Maps.{Maps, satp_of}
 use Rattle.nx_tables.specs.Roles.{Role, Leaf, Stands}
-use Rattle.nx_tables.specs.Seen.{seen, IsMapped}
+use Rattle.nx_tables.specs.ViewBytes.{seen, IsMapped}
 
 -- a group's tables map n bytes at the start of a page
 pub record IsPlace (ram : List ℕ) (satp at n : ℕ) (writes : Bool) (roles : ℕ → Role) (g : ℕ) (m : Maps) : Type 0 where

@@ -9,7 +9,7 @@ use Rattle.nx_base.proofs.Puts.{put_bytes-more, length-put_bytes, get-put_bytes_
 use Rattle.nx_sv32.specs.Walk.{ram_start, walk}
 use Rattle.nx_tables.specs.Maps.{Maps, satp_of, translated}
 use Rattle.nx_tables.specs.Roles.{Role, Leaf, is_table, is_of, Stands, SameFrames}
-use Rattle.nx_tables.specs.Seen.{byte_by, seen, PageAt, IsMapped}
+use Rattle.nx_tables.specs.ViewBytes.{byte_by, seen, PageAt, IsMapped}
 use Rattle.nx_tables.proofs.Walked.{walk_mapped}
 use Rattle.nx_tables.proofs.Kept.{table_is_of, leaf_is_of, stands_kept, same_roles, byte_elsewhere, put_same}
 

@@ -5,7 +5,7 @@ use Rattle.nx_base.specs.declared.access.Access.{Access}
 use Rattle.nx_sv32.specs.Walk.{ram_start, entry_at, walk}
 use Rattle.nx_tables.specs.Maps.{Page, Maps, satp_of, translated, pointer_to, leaf_of, table_by}
 use Rattle.nx_tables.specs.Roles.{Role, Free, Root, Table, Leaf, is_table, is_of, no_maps, with_table, with_page, with_role, freed, IsZeroed, SameFrames, SameRoles, Stands}
-use Rattle.nx_tables.specs.Seen.{seen, PageAt, IsMapped}
+use Rattle.nx_tables.specs.ViewBytes.{seen, PageAt, IsMapped}
 
 -- the walk from a root gives exactly what is mapped
 abbrev pub WalksAsMapped : Type 0

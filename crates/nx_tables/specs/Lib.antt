@@ -1,4 +1,4 @@
 pub mod Maps
 pub mod Roles
-pub mod Seen
+pub mod ViewBytes
 pub mod Laws
