@@ -1,0 +1,4 @@
+pub mod Names
+pub mod Pieces
+pub mod Progress
+pub mod Outcomes
