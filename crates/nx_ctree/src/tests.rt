@@ -1,5 +1,6 @@
 use super::*;
 use nx_ctok::{CFault, tokens};
+use nx_shared::Shared;
 use std::alloc::Global;
 use std::test::Fail;
 
