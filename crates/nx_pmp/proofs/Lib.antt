@@ -1,3 +1,4 @@
 pub mod Deciding
 pub mod Bytes
 pub mod Sizes
+pub mod Kept

@@ -5,6 +5,7 @@
 mod laws;
 mod matching;
 mod pmp;
+mod region;
 mod unit;
 
 pub use laws::{

@@ -29,7 +29,8 @@ fn is_set(cfg: u8, weight: u8) -> bool
     cfg / weight % 2 == 1
 }
 
-fn permits(cfg: u8, access: Access, mode: Mode) -> bool
+/// Whether a configuration permits an access in a mode.
+pub fn permits(cfg: u8, access: Access, mode: Mode) -> bool
     ensures { result ≡ permits cfg access mode }
 {
     let right = match access {

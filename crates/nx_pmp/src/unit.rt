@@ -2,7 +2,8 @@ ghost use Rattle.std.specs.Prelude.{◌≡◌, ◌+◌, ◌-◌, ◌^◌, ◌<�
 ghost use Rattle.nx_pmp.specs.Protection.{allows};
 ghost use Rattle.nx_pmp.specs.Unit.{AskedUnit};
 
-use crate::pmp::{Pmp, PmpEntry};
+use crate::pmp::{Pmp, PmpEntry, permits};
+use crate::region::{Region, no_region, region_of};
 use nx_base::{Access, Mode};
 use std::marker::Model;
 
@@ -26,16 +27,19 @@ pub struct PmpUnit {
     pmp: Pmp,
     asked: u64,
     last: Option<Question>,
+    // Round the last fetch, and the last load or store, for which the entries were searched.
+    near_fetch: Region,
+    near_data: Region,
 }
 
 impl Model for PmpUnit {
-    ghost use Rattle.nx_pmp.specs.Unit.{AskedUnit, IsAsked};
+    ghost use Rattle.nx_pmp.specs.Unit.{AskedUnit, IsAsked, IsDecided};
 
     ghost Value = { AskedUnit };
 
     ghost view = { λ u. record { pmp = u.pmp; asked = u.asked; last = u.last } };
 
-    ghost invariant = { λ u. IsAsked u.asked u.last };
+    ghost invariant = { λ u. IsAsked u.asked u.last × IsDecided u.pmp u.near_fetch × IsDecided u.pmp u.near_data };
 }
 
 impl PmpUnit {
@@ -47,11 +51,15 @@ impl PmpUnit {
             pmp,
             asked: 0,
             last: None,
+            near_fetch: no_region(),
+            near_data: no_region(),
         }
     }
 
     /// What `allows` answers. The question is kept and counted; the count stays at 2^64 - 1 once it
     /// is there.
+    #[inline(always)]
+    #[tactic(auto, using(crate::proofs::Kept::answered))]
     pub fn ask(&mut self, at: u32, len: u32, access: Access, mode: Mode) -> bool
         requires some { 1 ≤ len }
         requires few { len ≤ 4 }
@@ -68,6 +76,17 @@ impl PmpUnit {
             access,
             mode,
         });
+        if self.near_fetch.range.matches_all(at, len) {
+            return permits(self.near_fetch.cfg, access, mode);
+        }
+        if self.near_data.range.matches_all(at, len) {
+            return permits(self.near_data.cfg, access, mode);
+        }
+        let region = region_of(&self.pmp, at, len);
+        match access {
+            Access::Fetch => self.near_fetch = region,
+            _ => self.near_data = region,
+        }
         self.pmp.allows(at, len, access, mode)
     }
 
@@ -86,6 +105,8 @@ impl PmpUnit {
         ensures last { self.new.last ≡ self.old.last }
     {
         self.pmp.entries[place] = entry;
+        self.near_fetch = no_region();
+        self.near_data = no_region();
     }
 
     /// How many questions there were.
