@@ -9,7 +9,11 @@ use crate::fields::{funct3, funct7, imm_b, imm_i, imm_j, imm_s, imm_u, opcode, r
 use crate::inst::Inst;
 use nx_base::{AluOp, Cond};
 
+// Each function here is inlined into the machine's step, which then needs no second test of what
+// the first ones found.
+
 /// The instruction of a word. There is none exactly where no row of the table matches.
+#[inline(always)]
 #[tactic(auto, using(crate::proofs::Rows::decoded_in_range, crate::proofs::Rows::decoded_row))]
 pub fn decode(word: u32) -> Option<Inst>
     ensures table { result ≡ decode_of word }
@@ -20,6 +24,7 @@ pub fn decode(word: u32) -> Option<Inst>
 }
 
 // The table, read from words to instructions, opcode by opcode.
+#[inline(always)]
 #[tactic(auto, unfolding(crate::specs::Table::decode_of))]
 fn inst_of(word: u32) -> Option<Inst>
     ensures { result ≡ decode_of word }
@@ -49,6 +54,7 @@ fn inst_of(word: u32) -> Option<Inst>
     }
 }
 
+#[inline(always)]
 #[tactic(auto, unfolding(crate::specs::Codes::jalr_of))]
 fn jalr(word: u32) -> Option<Inst>
     ensures { result ≡ jalr_of (funct3 word) (rd_of word) (rs1_of word) (imm_i word) }
@@ -63,6 +69,7 @@ fn jalr(word: u32) -> Option<Inst>
     }
 }
 
+#[inline(always)]
 #[tactic(auto, unfolding(crate::specs::Codes::branch_of))]
 fn branches(word: u32) -> Option<Inst>
     ensures { result ≡ branch_of (funct3 word) (rs1_of word) (rs2_of word) (imm_b word) }
@@ -78,6 +85,7 @@ fn branches(word: u32) -> Option<Inst>
     }
 }
 
+#[inline(always)]
 fn branch(cond: Cond, word: u32) -> Option<Inst>
     ensures { result ≡ Some (Branch cond (rs1_of word) (rs2_of word) (imm_b word)) }
 {
@@ -89,6 +97,7 @@ fn branch(cond: Cond, word: u32) -> Option<Inst>
     })
 }
 
+#[inline(always)]
 #[tactic(auto, unfolding(crate::specs::Codes::load_of))]
 fn loads(word: u32) -> Option<Inst>
     ensures { result ≡ load_of (funct3 word) (rd_of word) (rs1_of word) (imm_i word) }
@@ -103,6 +112,7 @@ fn loads(word: u32) -> Option<Inst>
     }
 }
 
+#[inline(always)]
 fn load(width: u8, signed: bool, word: u32) -> Option<Inst>
     ensures { result ≡ Some (Load width signed (rd_of word) (rs1_of word) (imm_i word)) }
 {
@@ -115,6 +125,7 @@ fn load(width: u8, signed: bool, word: u32) -> Option<Inst>
     })
 }
 
+#[inline(always)]
 #[tactic(auto, unfolding(crate::specs::Codes::store_of))]
 fn stores(word: u32) -> Option<Inst>
     ensures { result ≡ store_of (funct3 word) (rs1_of word) (rs2_of word) (imm_s word) }
@@ -127,6 +138,7 @@ fn stores(word: u32) -> Option<Inst>
     }
 }
 
+#[inline(always)]
 fn store(width: u8, word: u32) -> Option<Inst>
     ensures { result ≡ Some (Store width (rs1_of word) (rs2_of word) (imm_s word)) }
 {
@@ -138,6 +150,7 @@ fn store(width: u8, word: u32) -> Option<Inst>
     })
 }
 
+#[inline(always)]
 #[tactic(auto, unfolding(crate::specs::Codes::op_imm_of))]
 fn immediates(word: u32) -> Option<Inst>
     ensures { result ≡ op_imm_of (funct3 word) (funct7 word) (rd_of word) (rs1_of word) (rs2_of word) (imm_i word) }
@@ -156,6 +169,7 @@ fn immediates(word: u32) -> Option<Inst>
     }
 }
 
+#[inline(always)]
 fn immediate(op: AluOp, word: u32) -> Option<Inst>
     ensures { result ≡ Some (OpImm op (rd_of word) (rs1_of word) (imm_i word)) }
 {
@@ -167,6 +181,7 @@ fn immediate(op: AluOp, word: u32) -> Option<Inst>
     })
 }
 
+#[inline(always)]
 fn shift(op: AluOp, word: u32) -> Option<Inst>
     ensures { result ≡ Some (OpImm op (rd_of word) (rs1_of word) (pos (rs2_of word))) }
 {
@@ -178,6 +193,7 @@ fn shift(op: AluOp, word: u32) -> Option<Inst>
     })
 }
 
+#[inline(always)]
 #[tactic(auto, unfolding(crate::specs::Codes::op_of))]
 fn operations(word: u32) -> Option<Inst>
     ensures { result ≡ op_of (funct3 word) (funct7 word) (rd_of word) (rs1_of word) (rs2_of word) }
@@ -190,6 +206,7 @@ fn operations(word: u32) -> Option<Inst>
     }
 }
 
+#[inline(always)]
 #[tactic(auto, unfolding(crate::specs::Codes::base_op_of))]
 fn base_operations(word: u32) -> Option<Inst>
     ensures { result ≡ base_op_of (funct3 word) (rd_of word) (rs1_of word) (rs2_of word) }
@@ -207,6 +224,7 @@ fn base_operations(word: u32) -> Option<Inst>
     }
 }
 
+#[inline(always)]
 #[tactic(auto, unfolding(crate::specs::Codes::other_op_of))]
 fn other_operations(word: u32) -> Option<Inst>
     ensures { result ≡ other_op_of (funct3 word) (rd_of word) (rs1_of word) (rs2_of word) }
@@ -218,6 +236,7 @@ fn other_operations(word: u32) -> Option<Inst>
     }
 }
 
+#[inline(always)]
 #[tactic(auto, unfolding(crate::specs::Codes::multiply_of))]
 fn multiplications(word: u32) -> Option<Inst>
     ensures { result ≡ multiply_of (funct3 word) (rd_of word) (rs1_of word) (rs2_of word) }
@@ -235,6 +254,7 @@ fn multiplications(word: u32) -> Option<Inst>
     }
 }
 
+#[inline(always)]
 fn operation(op: AluOp, word: u32) -> Option<Inst>
     ensures { result ≡ Some (Op op (rd_of word) (rs1_of word) (rs2_of word)) }
 {
@@ -246,6 +266,7 @@ fn operation(op: AluOp, word: u32) -> Option<Inst>
     })
 }
 
+#[inline(always)]
 #[tactic(auto, unfolding(crate::specs::Codes::fence_of))]
 fn fence(word: u32) -> Option<Inst>
     ensures { result ≡ fence_of (funct3 word) (rd_of word) (rs1_of word) (imm_i word) }
@@ -260,6 +281,7 @@ fn fence(word: u32) -> Option<Inst>
     }
 }
 
+#[inline(always)]
 #[tactic(auto, unfolding(crate::specs::Codes::system_of))]
 fn system(word: u32) -> Option<Inst>
     ensures { result ≡ system_of word }
