@@ -1,0 +1,9 @@
+pub mod Heads
+pub mod SimpleLaws
+pub mod ListLaws
+pub mod Growth
+pub mod Last
+pub mod SimpleReads
+pub mod Sound
+pub mod Complete
+pub mod ScriptReads
