@@ -1,1 +1,3 @@
 pub mod PastEnd
+pub mod PutBytes
+pub mod NoText

@@ -6,7 +6,7 @@ use Rattle.nx_base.specs.declared.calls.Kind.{Kind}
 use Rattle.nx_base.specs.declared.calls.Kind.TheVariants.{Word, In, Text, Out, Len, Out4, Out8}
 use Rattle.nx_cobjects.specs.declared.value.Name.TheVariants as name
 use Rattle.nx_cobjects.specs.declared.value.Value.{Value}
-use Rattle.nx_cobjects.specs.declared.value.Value.TheVariants.{Int, Point, Forged, Entry}
+use Rattle.nx_cobjects.specs.declared.value.Value.TheVariants.{Point}
 use Rattle.nx_cobjects.specs.Values.{int_in, size_of, word_in}
 use Rattle.nx_cobjects.specs.Groups.{Object, object}
 use Rattle.nx_cobjects.specs.Memory.{Memory, memory, object_in, object_at, value_in}

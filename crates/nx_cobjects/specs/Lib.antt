@@ -3,3 +3,4 @@ pub mod Groups
 pub mod Memory
 pub mod Buffers
 pub mod Starts
+pub mod Memories

@@ -1,5 +1,5 @@
 -- Objects, and what is read from them and stored in them.
-use Rattle.std.specs.Prelude.{ℕ, zero, suc, ◌+◌, ◌*◌, ◌%◌, ◌==◌, not, List, [], ◌∷◌, ◌++◌, length, replicate, get_or, slice_index, slice_set, nat_le, if◌then◌else◌, Result, Ok, Err}
+use Rattle.std.specs.Prelude.{ℕ, zero, suc, ◌+◌, ◌*◌, ◌%◌, ◌==◌, not, List, [], length, replicate, get_or, slice_index, slice_set, nat_le, if◌then◌else◌, Result, Ok, Err}
 use Rattle.nx_base.specs.Arithmetic.{flag, alu_of}
 use Rattle.nx_base.specs.ByteLists.{get_bytes, put_bytes, from_le, to_le}
 use Rattle.nx_base.specs.declared.operations.AluOp.TheVariants as alu

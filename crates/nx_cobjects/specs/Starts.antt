@@ -1,5 +1,5 @@
 -- The objects of a new group.
-use Rattle.std.specs.Prelude.{List, map}
+use Rattle.std.specs.Prelude.{map}
 use Rattle.nx_checked.specs.declared.checked.Element.TheVariants as element
 use Rattle.nx_checked.specs.declared.checked.GlobalArray.{GlobalArray}
 use Rattle.nx_checked.specs.declared.checked.Checked.{Checked}
