@@ -143,8 +143,8 @@ read_counts k c fd size = by_open _ (opened k c.place fd)
 pub describes : (k l : KernelState) (c : Caller) (to : Target) (flags : ℕ) → Stays k l → Counts k (describe_new k l c to flags)
 describes k l c to flags a = by_descriptor (record { target = to; flags = flags; offset = 0 }) (free_descriptor l.descriptors c.place)
   where
-    by_place : (o : Open) (fd : ℕ) (place : Option ℕ) → Counts k (describe_at l c o fd place)
-    by_place o fd None = counts_after k l _ a (fails l c errno.Emfile)
+    by_place : (o : Open) (fd : ℕ) (place : Option ℕ) → Counts k (describe_at k l c o fd place)
+    by_place o fd None = fails k c errno.Emfile
     by_place o fd (Some place) = counts_same k _ (record { calls = a.calls; console = a.console })
 
     by_descriptor : (o : Open) (fd : Option ℕ) → Counts k (describe k l c o fd)

@@ -170,8 +170,8 @@ free_fits descriptors place fd e =
 describes : (k l : KernelState) (c : Caller) (to : Target) (flags : ℕ) → IsOfBytes k → IsOfBytes l → Says (describe_new k l c to flags)
 describes k l c to flags b a = by_descriptor (record { target = to; flags = flags; offset = 0 }) (free_descriptor l.descriptors c.place) refl
   where
-    by_place : (o : Open) (fd : ℕ) → fd < 2 ^ 32 → (place : Option ℕ) → Says (describe_at l c o fd place)
-    by_place o fd lt None = fails l c errno.Emfile a
+    by_place : (o : Open) (fd : ℕ) → fd < 2 ^ 32 → (place : Option ℕ) → Says (describe_at k l c o fd place)
+    by_place o fd lt None = fails k c errno.Emfile b
     by_place o fd lt (Some place) = plain (record l { descriptors = set_descriptor l.descriptors c.place fd (Some place); opens = slice_set l.opens place (Some o) }) c fd a lt
 
     by_descriptor : (o : Open) (fd : Option ℕ) → free_descriptor l.descriptors c.place ≡ fd → Says (describe k l c o fd)

@@ -21,7 +21,7 @@ use Rattle.nx_ksys.specs.Descriptors.{may_read, may_write, creates, is_exclusive
 use Rattle.nx_ksys.specs.Answers.{Caller}
 use Rattle.nx_ksys.specs.FileCalls.{with_open, Written, written_at, write_place, file_written, write_file, write_console, write_target, is_stream, write_some, write_opened, write_row, read_file, read_target, read_opened, read_row, describe_at, describe, describe_new, emptied, open_kind, with_new_file, create_at, create, open_found, open_path, open_row, close_at, close_row, seek_from, sought, seek_to, seek_file, seek_target, seek_opened, lseek_row, dup_at, dup_of, dup_row, dup2_of, dup2_row}
 use Rattle.nx_ksys.specs.ThreadTable.{ThreadRow}
-use Rattle.nx_ksys.proofs.Owing.{Keeps, keeps_refl, keeps_on, keeps_either, keeps_same, Calls, Lawful, Takes, either, answers, plain, fails_after, fails}
+use Rattle.nx_ksys.proofs.Owing.{Keeps, keeps_refl, keeps_on, keeps_either, keeps_same, Calls, Lawful, Takes, either, answers, plain, fails}
 
 -- ---- descriptors
 
@@ -113,8 +113,8 @@ read_lawful k c x h fd size takes = by_open (opened k c.place fd)
 pub describes : (k l : KernelState) (c : Caller) (x : ThreadRow) (h : Calls k c) (to : Target) (flags : ℕ) → Keeps k l → Lawful k c x (describe_new k l c to flags)
 describes k l c x h to flags a = by_descriptor (record { target = to; flags = flags; offset = 0 }) (free_descriptor l.descriptors c.place)
   where
-    by_place : (o : Open) (fd : ℕ) (place : Option ℕ) → Lawful k c x (describe_at l c o fd place)
-    by_place o fd None = fails_after k c x h l errno.Emfile (keeps_same k l a)
+    by_place : (o : Open) (fd : ℕ) (place : Option ℕ) → Lawful k c x (describe_at k l c o fd place)
+    by_place o fd None = fails k c x h errno.Emfile
     by_place o fd (Some place) = plain k c x h _ _ (keeps_same k _ (record { sched = a.sched; groups = a.groups; numbers = a.numbers }))
 
     by_descriptor : (o : Open) (fd : Option ℕ) → Lawful k c x (describe k l c o fd)

@@ -119,13 +119,14 @@ read_row k c fd size = read_opened k c (min size most_moved) (opened k c.place f
 abbrev pub described : KernelState → Caller → Open → ℕ → ℕ → Stepped
 described k c o fd place = replied (record k { descriptors = set_descriptor k.descriptors c.place fd (Some place); opens = slice_set k.opens place (Some o) }) c fd []
 
-abbrev pub describe_at : KernelState → Caller → Open → ℕ → Option ℕ → Stepped
-describe_at k c o fd None = failed k c Emfile
-describe_at k c o fd (Some place) = described k c o fd place
+-- without room for one the call fails over the old state, in which no file was made or emptied
+abbrev pub describe_at : KernelState → KernelState → Caller → Open → ℕ → Option ℕ → Stepped
+describe_at old k c o fd None = failed old c Emfile
+describe_at old k c o fd (Some place) = described k c o fd place
 
 abbrev pub describe : KernelState → KernelState → Caller → Open → Option ℕ → Stepped
 describe old k c o None = failed old c Emfile
-describe old k c o (Some fd) = describe_at k c o fd (position_from is_none 0 k.opens)
+describe old k c o (Some fd) = describe_at old k c o fd (position_from is_none 0 k.opens)
 
 abbrev pub describe_new : KernelState → KernelState → Caller → Target → ℕ → Stepped
 describe_new old k c to flags = describe old k c (record { target = to; flags = flags; offset = 0 }) (free_descriptor k.descriptors c.place)
