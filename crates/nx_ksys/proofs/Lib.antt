@@ -26,3 +26,7 @@ pub mod EndBytes
 pub mod ThreadBytes
 pub mod Spoken
 pub mod Inputs
+pub mod Gathering
+pub mod BoundLemmas
+pub mod Bounding
+pub mod Bounded

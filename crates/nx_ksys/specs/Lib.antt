@@ -15,6 +15,7 @@ pub mod ThreadTable
 pub mod Boot
 pub mod Gathered
 pub mod Laws
+pub mod Bounds
 pub mod Soundness
 pub mod TableLaws
 pub mod ByteLaws

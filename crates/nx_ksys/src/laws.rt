@@ -1,4 +1,5 @@
 ghost use Rattle.nx_ksys.specs.Laws.{CallsCountOne, ConsolesGrow, PointersMeanNothing, PickingIsStill, ChosenAgain, EndedWithoutGroups};
+ghost use Rattle.nx_ksys.specs.Bounds.{BootIsBounded, CallsStayBounded, ChoicesStayBounded, PathsAreFew};
 ghost use Rattle.nx_ksys.specs.ByteLaws.{BootIsOfBytes, CallsTellBytes, ChoicesTellBytes, WellFormedInputs};
 ghost use Rattle.nx_ksys.specs.TableLaws.{BootIsSound, CallsStaySound, ChoicesStaySound, NumbersWereGiven, SlotsDiffer, CallsChangeThreads, ChoicesChangeThreads, SameMeaningSameStep, NobodysCallIsSilent};
 
@@ -75,4 +76,14 @@ pub fn what_the_kernel_tells_is_words_and_bytes()
     ensures call { CallsTellBytes }
     ensures choice { ChoicesTellBytes }
     ensures inputs { WellFormedInputs }
+{}
+
+/// A law: a path of a file leads to a file that lives, no second path leads to the same, and so it
+/// is with queues. So the paths are no more than those of boot and the objects. After boot it is so,
+/// and so it stays under each call and each choice.
+pub fn paths_are_bounded_by_objects()
+    ensures boot { BootIsBounded }
+    ensures call { CallsStayBounded }
+    ensures choice { ChoicesStayBounded }
+    ensures few { PathsAreFew }
 {}

@@ -13,7 +13,7 @@ mod thread;
 pub use cooked::Cooked;
 pub use laws::{
     a_call_counts_one, a_console_only_grows, choosing_changes_nothing_that_is_reported,
-    pointers_mean_nothing_to_the_kernel,
+    paths_are_bounded_by_objects, pointers_mean_nothing_to_the_kernel,
 };
 pub use moved_bytes::{MOST_MOVED, MovedBytes};
 pub use node::{Node, NodeKind, Open, Target};

@@ -1,8 +1,9 @@
-ghost use Rattle.std.specs.Prelude.{◌≡◌, ◌<◌, ◌≤◌, ◌++◌, [], ◌∷◌, length, IfOk};
-ghost use Rattle.nx_ksys.specs.Gathered.{Gathered};
+ghost use Rattle.std.specs.Prelude.{◌≡◌, ◌<◌, ◌≤◌, ◌+◌, ◌^◌, ◌++◌, [], ◌∷◌, length, IfOk};
+ghost use Rattle.nx_ksys.specs.Gathered.{Gathered, replies_of};
+ghost use Rattle.nx_ksys.specs.Telling.{reply, failure};
 
 use crate::moved_bytes::MovedBytes;
-use nx_base::OutOfMemory;
+use nx_base::{Errno, OutOfMemory};
 use std::alloc::Global;
 use std::marker::Model;
 
@@ -86,5 +87,28 @@ impl Replies {
         reply.first.set(first);
         reply.second.set(second);
         self.used += 1;
+    }
+
+    /// Tells a thread that its call succeeded, with a value and outputs.
+    pub fn tell(&mut self, tid: u32, value: u32, first: &[u8], second: &[u8])
+        requires room { length self.old.replies < self.old.room }
+        requires value { value < 2 ^ 31 }
+        requires first { length first.now ≤ 4096 }
+        requires second { length second.now ≤ 4096 }
+        ensures told { replies_of self.new.replies ≡ replies_of self.old.replies ++ reply tid value (first.now ∷ second.now ∷ []) ∷ [] }
+        ensures len { length self.new.replies ≡ length self.old.replies + 1 }
+        ensures room { self.new.room ≡ self.old.room }
+    {
+        self.add(tid, value as i32, 0, first, second);
+    }
+
+    /// Tells a thread that its call failed.
+    pub fn fail(&mut self, tid: u32, errno: Errno)
+        requires room { length self.old.replies < self.old.room }
+        ensures told { replies_of self.new.replies ≡ replies_of self.old.replies ++ failure tid errno ∷ [] }
+        ensures len { length self.new.replies ≡ length self.old.replies + 1 }
+        ensures room { self.new.room ≡ self.old.room }
+    {
+        self.add(tid, -1, errno.number(), b"", b"");
     }
 }
