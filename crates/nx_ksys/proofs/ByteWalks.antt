@@ -1,6 +1,8 @@
 -- Bytes and elements of lists under the changes that calls make.
 use Rattle.std.proofs.Common.{◌≡◌, ℕ, zero, suc, ◌<◌, ◌%◌, ◌/◌, inl, inr, ◌⊎◌, ⊎_elim, Bool, true, false, List, [], ◌∷◌, ◌++◌, take, drop, map, replicate, Option, Some, None, refl, sym, ap, ◌∙◌, subst, arith}
-use Rattle.std.specs.Prelude.{cond, slice_get, slice_set, slice_index_or, filter}
+use Rattle.std.specs.Prelude.{◌&&◌, nat_lt, cond, slice_get, slice_set, slice_index_or, filter}
+use Rattle.std.proofs.lemmas.Bool.{and_parts}
+use Rattle.std.proofs.lemmas.Bool.Decides.{nat_tests}
 use Rattle.std.specs.List.{All}
 use Rattle.std.proofs.lemmas.Option.{slice_get-get_or}
 use Rattle.nx_base.specs.ByteLists.{AreBytes, to_le}
@@ -41,6 +43,15 @@ pub number_bytes : (n x : ℕ) → AreBytes (to_le n x)
 unfolding to_le
 number_bytes zero x = no_bytes
 number_bytes (suc n) x = more_bytes (x % 256) (to_le n (x / 256)) (omega arith) (number_bytes n (x / 256))
+
+-- numbers below 256, by a test
+abbrev pub are_small : List ℕ → Bool
+are_small [] = true
+are_small (b ∷ bs) = nat_lt b 256 && are_small bs
+
+pub text_bytes : (bs : List ℕ) → are_small bs ≡ true → AreBytes bs
+text_bytes [] e = no_bytes
+text_bytes (b ∷ bs) e = let p = and_parts (nat_lt b 256) (are_small bs) e in let q = p.0 in more_bytes b bs (grind (arith, nat_tests)) (text_bytes bs p.1)
 
 -- ---- elements
 

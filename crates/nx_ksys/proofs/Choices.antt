@@ -11,6 +11,7 @@ use Rattle.nx_ksys.specs.declared.thread.Search.TheVariants as search
 use Rattle.nx_ksys.specs.declared.pick.Pick.TheVariants.{Run, Ended}
 use Rattle.nx_ksys.specs.Threads.{deadline_of, is_ready, first_of}
 use Rattle.nx_ksys.specs.State.{KernelState}
+use Rattle.nx_ksys.specs.Descriptors.{without_idle}
 use Rattle.nx_ksys.specs.Picking.{Picked, next_late, passed, passed_if, advanced, runs, picked_after, picked}
 use Rattle.nx_ksys.specs.ThreadTable.{ThreadRow, waits_in, threads}
 use Rattle.nx_ksys.specs.Soundness.{IsSound}
@@ -21,7 +22,7 @@ use Rattle.nx_ksys.proofs.EndRows.{Tells, tells_nothing}
 use Rattle.nx_ksys.proofs.Owing.{tab}
 
 advance_tells : (k : KernelState) → IsSound k → Tells k (advanced k)
-unfolding advanced
+unfolding advanced without_idle
 advance_tells k sound = by_ready (first_of search.Ready k.sched.threads)
   where
     by_timed : (t : Option Thread) → Tells k (passed k t)

@@ -19,10 +19,13 @@ use Rattle.nx_ksys.specs.State.{Group, Code, ThreadValue, KernelState, is_direct
 use Rattle.nx_ksys.specs.Paths.{resolved, node_at, parent_of, is_closed, is_in, has_children, nth_name, shown}
 use Rattle.nx_ksys.specs.Answers.{Caller, place_of, is_negative, word_at, input_at}
 use Rattle.nx_ksys.specs.TreeCalls.{unlink_kind, unlink_node, unlink_path, unlink_row, mkdir_node, mkdir_path, mkdir_row, rmdir_node, rmdir_path, rmdir_row, may_move, is_too_long, is_taken, rename_to, rename_second, rename_node, rename_path, rename_row, resolve, chdir_node, chdir_path, chdir_row, getcwd_row, listed_name, list_name, readdir_node, readdir_path, readdir_row, kind_node, kind_path, kind_row}
+use Rattle.nx_ksys.specs.Descriptors.{without_idle}
 use Rattle.nx_ksys.specs.Ends.{WithReplies, has_child, has_any_child, is_code, is_any_code, and_lost, vanished, without_descriptors, left_alone, hand_over, told_parent, end_of, end_group, exit_row, gone, hand_value, thread_exit_row}
 use Rattle.nx_ksys.specs.GroupCalls.{is_ended, spawn_priority, most_numbers, spawn_at, spawn_kind, spawn_node, spawn_path, spawn_row, wait_for, wait_child, waitpid_row, arg_out, arg_row, nth_group, status_of, ps_out, ps_row}
 use Rattle.nx_ksys.specs.ThreadCalls.{set_priority, setpriority_row, yield_row, thread_at, thread_row, is_value, may_join, join_live, join_value, join_row, errno_row}
 use Rattle.nx_ksys.specs.Step.{row_of, asked, counted, meant_call, called_in, called_by, called, step}
+use Rattle.nx_ksys.proofs.EnvironmentCounts.{sleep_counts, ticks_counts, getenv_counts, setenv_counts, unsetenv_counts, env_counts}
+use Rattle.nx_ksys.proofs.QueueCounts.{sem_open_counts, sem_wait_counts, sem_trywait_counts, sem_post_counts, sem_close_counts, mq_open_counts, mq_close_counts, mq_unlink_counts, mq_send_counts, mq_receive_counts, mq_timedreceive_counts}
 use Rattle.nx_ksys.proofs.Counting.{Counts, Stays, counts_same, either, fails, texts, all_closed_stays, write_counts, read_counts, open_counts, close_counts, lseek_counts, dup_counts, dup2_counts}
 
 -- ---- paths
@@ -155,7 +158,7 @@ parent_stays code k = by_parent (code.parent == 0) (first_of (search.Parent code
     by_parent false t = let h = handed t in record { calls = h.calls; console = h.console }
 
 pub end_stays : (k : KernelState) (place code : ℕ) → Stays k (end_group k place code).to
-unfolding end_group vanished without_descriptors left_alone
+unfolding end_group vanished without_idle without_descriptors left_alone
 end_stays k place code = by_group (flat (slice_get k.groups place))
   where
     by_group : (g : Option Group) → Stays k (end_of k place code g).to
@@ -305,7 +308,23 @@ row_counts call.NxThread k c words inputs = thread_counts k c
 row_counts call.NxThreadExit k c words inputs = thread_exit_counts k c (word_at words 0)
 row_counts call.NxJoin k c words inputs = join_counts k c (word_at words 0)
 row_counts call.GetErrno k c words inputs = errno_counts k c
-row_counts other k c words inputs = fails k c errno.Enosys
+row_counts call.NxMqOpen k c words inputs = mq_open_counts k c (input_at inputs 0) (word_at words 1) (word_at words 2) (word_at words 3)
+row_counts call.MqClose k c words inputs = mq_close_counts k c (word_at words 0)
+row_counts call.MqUnlink k c words inputs = mq_unlink_counts k c (input_at inputs 0)
+row_counts call.MqSend k c words inputs = mq_send_counts k c (word_at words 0) (input_at inputs 0) (word_at words 2) (word_at words 3)
+row_counts call.MqReceive k c words inputs = mq_receive_counts k c (word_at words 0) (word_at words 2)
+row_counts call.NxMqTimedreceive k c words inputs = mq_timedreceive_counts k c (word_at words 0) (word_at words 2) (word_at words 4)
+row_counts call.NxSemOpen k c words inputs = sem_open_counts k c (input_at inputs 0) (word_at words 1) (word_at words 2)
+row_counts call.NxSemWait k c words inputs = sem_wait_counts k c (word_at words 0)
+row_counts call.NxSemTrywait k c words inputs = sem_trywait_counts k c (word_at words 0)
+row_counts call.NxSemPost k c words inputs = sem_post_counts k c (word_at words 0)
+row_counts call.NxSemClose k c words inputs = sem_close_counts k c (word_at words 0)
+row_counts call.NxSleep k c words inputs = sleep_counts k c (word_at words 0)
+row_counts call.NxTicks k c words inputs = ticks_counts k c
+row_counts call.NxGetenv k c words inputs = getenv_counts k c (input_at inputs 0) (word_at words 2)
+row_counts call.Setenv k c words inputs = setenv_counts k c (input_at inputs 0) (input_at inputs 1) (word_at words 2)
+row_counts call.Unsetenv k c words inputs = unsetenv_counts k c (input_at inputs 0)
+row_counts call.NxEnv k c words inputs = env_counts k c (word_at words 0) (word_at words 2)
 
 pub step_counts : (k : KernelState) (thread : ℕ) (which : Option KCall) (words : List ℕ) (inputs : List (List ℕ)) → Counts (counted k) (step k thread which words inputs)
 unfolding step

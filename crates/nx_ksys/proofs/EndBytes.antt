@@ -1,5 +1,5 @@
 -- Ends, starts and choices: what they tell is words and bytes.
-use Rattle.std.proofs.Common.{◌≡◌, ℕ, zero, suc, ◌+◌, ◌<◌, ◌%◌, ◌^◌, ◌==◌, Bool, true, false, List, [], ◌∷◌, ◌++◌, length, drop, map, Option, Some, None, refl, sym, ◌∙◌, subst, arith}
+use Rattle.std.proofs.Common.{◌≡◌, ℕ, zero, suc, ◌+◌, ◌<◌, ◌%◌, ◌^◌, ◌==◌, Bool, true, false, List, [], ◌∷◌, ◌++◌, length, drop, map, Option, Some, None, refl, sym, ap, ◌∙◌, subst, arith}
 use Rattle.std.specs.Prelude.{not, slice_get, slice_set, if◌then◌else◌}
 use Rattle.std.specs.List.{list_any}
 use Rattle.std.specs.Option.{is_some}
@@ -15,23 +15,24 @@ use Rattle.nx_ksys.specs.declared.thread.Search.TheVariants as search
 use Rattle.nx_ksys.specs.declared.pick.Pick.TheVariants.{Ended}
 use Rattle.nx_ksys.specs.Telling.{reply, failure}
 use Rattle.nx_ksys.specs.Threads.{Schedule, flat, awaited, deadline_of, first_of, wake, with_error, Woken, none_woken, woken_then, woken_with, woken_failing}
-use Rattle.nx_ksys.specs.State.{Group, Code, ThreadValue, Ending, KernelState}
-use Rattle.nx_ksys.specs.Answers.{Caller, int_out}
-use Rattle.nx_ksys.specs.Ends.{WithReplies, told_by, first_lost, refuse_first, refuse_lost, and_lost, without_group, vanished, without_descriptors, nobodys, left_alone, recorded, hand_over, told_parent, end_of, end_group, exit_row, without_thread, gone, hand_value, end_thread, thread_exit_row}
+use Rattle.nx_ksys.specs.State.{Message, Group, Code, ThreadValue, Ending, KernelState}
+use Rattle.nx_ksys.specs.Descriptors.{queue_lives, living_from, without_idle}
+use Rattle.nx_ksys.specs.Answers.{Caller, replied_then, int_out}
+use Rattle.nx_ksys.specs.Ends.{WithReplies, told_by, first_lost, refuse_first, refuse_lost, and_lost, without_group, kept_message, kept_messages, vanished, without_descriptors, nobodys, left_alone, recorded, hand_over, told_parent, end_of, end_group, exit_row, without_thread, gone, hand_value, end_thread, thread_exit_row}
 use Rattle.nx_ksys.specs.Picking.{timed_out, first_due, wake_first, wake_due, next_late, passed, passed_if, advanced, Picked, picked_after, picked}
 use Rattle.nx_ksys.specs.Soundness.{Stands}
-use Rattle.nx_ksys.specs.ByteLaws.{Each, EachStanding, IsGroupOfBytes, IsThreadOfBytes, IsCodeOfWord, IsOfBytes, IsTold}
+use Rattle.nx_ksys.specs.ByteLaws.{Each, EachStanding, IsGroupOfBytes, IsThreadOfBytes, IsCodeOfWord, IsMessageOfBytes, IsQueueOfBytes, IsOfBytes, IsTold}
 use Rattle.nx_ksys.proofs.Standing.{some_same, none_some, flat_some}
 use Rattle.nx_ksys.proofs.ByteWalks.{each_none, each_more, each_joined, each_kept, standing_changed, standing_gone}
 use Rattle.nx_ksys.proofs.PathBytes.{either_is}
-use Rattle.nx_ksys.proofs.Saying.{told_reply, told_failure, one_told, int_output, changed_bytes, errno_fits, with_threads_bytes, with_codes_bytes, Says, either}
+use Rattle.nx_ksys.proofs.Saying.{told_reply, told_failure, one_told, int_output, changed_bytes, errno_fits, with_threads_bytes, with_codes_bytes, with_queues_bytes, Says, either}
 use Rattle.nx_ksys.proofs.FileBytes.{all_closed_bytes}
 
 -- ---- threads that go on
 
-record WakesBytes (w : Woken) : Type 0 where
-  threads : EachStanding IsThreadOfBytes w.sched.threads
-  told : Each IsTold w.replies
+pub record WakesBytes (w : Woken) : Type 0 where
+  pub threads : EachStanding IsThreadOfBytes w.sched.threads
+  pub told : Each IsTold w.replies
 
 wakes_none : (s : Schedule) → EachStanding IsThreadOfBytes s.threads → WakesBytes (none_woken s)
 wakes_none s h = record { threads = h; told = each_none IsTold }
@@ -39,7 +40,7 @@ wakes_none s h = record { threads = h; told = each_none IsTold }
 wakes_then : (w : Woken) (more : Schedule → Woken) → WakesBytes w → WakesBytes (more w.sched) → WakesBytes (woken_then w more)
 wakes_then w more a b = record { threads = b.threads; told = each_joined IsTold w.replies (more w.sched).replies a.told b.told }
 
-wakes_with : (s : Schedule) (t : Thread) (value : ℕ) (outputs : List (List ℕ)) → EachStanding IsThreadOfBytes s.threads → value < 2 ^ 32 → Each AreBytes outputs → WakesBytes (woken_with s t value outputs)
+pub wakes_with : (s : Schedule) (t : Thread) (value : ℕ) (outputs : List (List ℕ)) → EachStanding IsThreadOfBytes s.threads → value < 2 ^ 32 → Each AreBytes outputs → WakesBytes (woken_with s t value outputs)
 unfolding wake
 wakes_with s t value outputs h v o = record {
   threads = changed_bytes (λ u. record u { doing = Ready s.moments }) t.number s.threads (λ u g. let p = g.priority in let e = g.errno in record { priority = p; errno = e }) h;
@@ -79,6 +80,13 @@ due_bytes time (suc n) s h = by_thread (first_due time s) (λ r g. due_bytes tim
     by_thread : (o : Option Thread) → ((r : Schedule) → EachStanding IsThreadOfBytes r.threads → WakesBytes (wake_due time n r)) → WakesBytes (wake_first s (wake_due time n) o)
     by_thread None more = wakes_none s h
     by_thread (Some t) more = let w = by_wait t (awaited t.doing) in wakes_then (timed_out s t (awaited t.doing)) (wake_due time n) w (more (timed_out s t (awaited t.doing)).sched w.threads)
+
+-- the caller is answered, and then others go on
+pub says_then : (l : KernelState) (c : Caller) (value : ℕ) (outputs : List (List ℕ)) (w : Woken) → IsOfBytes l → value < 2 ^ 32 → Each AreBytes outputs → WakesBytes w → Says (replied_then l c value outputs w)
+says_then l c value outputs w h v o g = record {
+  kept = with_threads_bytes l w.sched.threads h g.threads;
+  told = each_more IsTold (reply c.thread.number value outputs) w.replies (told_reply c.thread.number value outputs v o) g.told;
+}
 
 -- ---- ends
 
@@ -122,18 +130,65 @@ nobodys_bytes : (number : ℕ) (gs : List (Option Group)) → EachStanding IsGro
 nobodys_bytes number gs h = standing_changed IsGroupOfBytes (nobodys number) gs by_one h
   where
     by_test : (g y : Group) (b : Bool) → (if b then Some (record g { parent = 0 }) else Some g) ≡ Some y → IsGroupOfBytes g → IsGroupOfBytes y
-    by_test g y true e p = let d = p.directory in let a = p.arguments in let f = p.few in subst IsGroupOfBytes (some_same (record g { parent = 0 }) y e) (record { directory = d; arguments = a; few = f })
+    by_test g y true e p = let d = p.directory in let a = p.arguments in let f = p.few in let n = p.names in let v = p.values in subst IsGroupOfBytes (some_same (record g { parent = 0 }) y e) (record { directory = d; arguments = a; few = f; names = n; values = v })
     by_test g y false e p = subst IsGroupOfBytes (some_same g y e) p
 
     by_one : (o : Option Group) (y : Group) → nobodys number o ≡ Some y → ((x : Group) → o ≡ Some x → IsGroupOfBytes x) → IsGroupOfBytes y
     by_one None y e p = absurd (none_some y e)
     by_one (Some g) y e p = by_test g y (g.parent == number) e (p g refl)
 
+-- a message that is left stood there
+messages_left : (group : ℕ) (ts : List (Option Thread)) (ms : List (Option Message)) → EachStanding IsMessageOfBytes ms → EachStanding IsMessageOfBytes (kept_messages group ts ms)
+messages_left group [] ms h = h
+messages_left group (t ∷ ts) [] h = h
+messages_left group (t ∷ ts) (m ∷ ms) h = by_place (messages_left group ts ms (λ p y e. h (suc p) y e))
+  where
+    by_test : (b : Bool) (y : Message) → (if b then None else m) ≡ Some y → IsMessageOfBytes y
+    by_test true y e = absurd (none_some y e)
+    by_test false y e = h 0 y (ap Some e)
+
+    by_thread : (o : Option Thread) (y : Message) → kept_message group o m ≡ Some y → IsMessageOfBytes y
+    by_thread None y e = h 0 y (ap Some e)
+    by_thread (Some u) y e = by_test (u.group == group) y e
+
+    by_place : EachStanding IsMessageOfBytes (kept_messages group ts ms) → (p : ℕ) (y : Message) → slice_get (kept_message group t m ∷ kept_messages group ts ms) p ≡ Some (Some y) → IsMessageOfBytes y
+    by_place rest zero y e = by_thread t y (some_same (kept_message group t m) (Some y) e)
+    by_place rest (suc p) y e = rest p y e
+
+living_standing : {A : Type 0} (P : A → Type 0) (lives : ℕ → Bool) (place : ℕ) (xs : List (Option A)) → EachStanding P xs → EachStanding P (living_from lives place xs)
+living_standing P lives place [] h = h
+living_standing {A} P lives place (x ∷ xs) h = by_place (living_standing P lives (place + 1) xs (λ p y e. h (suc p) y e))
+  where
+    by_test : (b : Bool) (y : A) → (if b then x else None) ≡ Some y → P y
+    by_test true y e = h 0 y (ap Some e)
+    by_test false y e = absurd (none_some y e)
+
+    by_place : EachStanding P (living_from lives (place + 1) xs) → (p : ℕ) (y : A) → slice_get ((if lives place then x else None) ∷ living_from lives (place + 1) xs) p ≡ Some (Some y) → P y
+    by_place rest zero y e = by_test (lives place) y (some_same (if lives place then x else None) (Some y) e)
+    by_place rest (suc p) y e = rest p y e
+
+idle_bytes : (k : KernelState) → IsOfBytes k → IsOfBytes (without_idle k)
+unfolding without_idle
+idle_bytes k b = with_queues_bytes k (living_from (queue_lives k) 0 k.queues) k.sending b (living_standing IsQueueOfBytes (queue_lives k) 0 k.queues b.each_queue) b.each_sent
+
+vanished_bytes : (k : KernelState) (g : Group) → IsOfBytes k → IsOfBytes (vanished g.number k)
+unfolding vanished
+vanished_bytes k g b = idle_bytes _ (record {
+  names = b.names;
+  paths = b.paths;
+  contents = b.contents;
+  each_group = b.each_group;
+  each_thread = dropped_bytes (without_group g.number) (λ t y q. left_if (t.group == g.number) t y q) refl k.sched.threads b.each_thread;
+  children = b.children;
+  rest = b.rest;
+  each_queue = b.each_queue;
+  each_sent = messages_left g.number k.sched.threads k.sending b.each_sent;
+})
+
 ended_bytes : (k : KernelState) (place : ℕ) (g : Group) (e : Ending) → IsOfBytes k → IsOfBytes (recorded e (left_alone place g.number (without_descriptors place (vanished g.number k))))
-unfolding left_alone without_descriptors vanished
+unfolding left_alone without_descriptors
 ended_bytes k place g e b =
-    let v = with_threads_bytes k (map (without_group g.number) k.sched.threads) b (dropped_bytes (without_group g.number) (λ t y q. left_if (t.group == g.number) t y q) refl k.sched.threads b.each_thread) in
-    let d = all_closed_bytes 32 0 place (vanished g.number k) v in
+    let d = all_closed_bytes 32 0 place (vanished g.number k) (vanished_bytes k g b) in
     record {
       names = d.names;
       paths = d.paths;
@@ -142,6 +197,8 @@ ended_bytes k place g e b =
       each_thread = d.each_thread;
       children = each_kept IsCodeOfWord (λ c. not (c.parent == g.number)) (without_descriptors place (vanished g.number k)).codes d.children;
       rest = d.rest;
+      each_queue = d.each_queue;
+      each_sent = d.each_sent;
     }
 
 group_tells : (k : KernelState) (place code : ℕ) → IsOfBytes k → ((g : Group) → Stands k.groups place g → g.number < 2 ^ 32) → TellsBytes (end_group k place code)
@@ -185,8 +242,10 @@ advance_tells k b = by_ready (first_of search.Ready k.sched.threads)
   where
     by_timed : (t : Option Thread) → TellsBytes (passed k t)
     by_timed None = record { kept = b; replies = each_none IsTold }
-    by_timed (Some t) = woken_tells (record k { time = deadline_of t.doing + next_late k.late; late = drop 1 k.late }) (wake_due (deadline_of t.doing + next_late k.late) (length k.sched.threads) k.sched) b
-        (due_bytes (deadline_of t.doing + next_late k.late) (length k.sched.threads) k.sched b.each_thread)
+    by_timed (Some t) =
+        let w = woken_tells (record k { time = deadline_of t.doing + next_late k.late; late = drop 1 k.late }) (wake_due (deadline_of t.doing + next_late k.late) (length k.sched.threads) k.sched) b
+        (due_bytes (deadline_of t.doing + next_late k.late) (length k.sched.threads) k.sched b.each_thread) in
+        record { kept = idle_bytes _ w.kept; replies = w.replies }
 
     by_ready : (t : Option Thread) → TellsBytes (passed_if k t)
     by_ready (Some t) = record { kept = b; replies = each_none IsTold }

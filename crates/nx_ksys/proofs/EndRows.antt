@@ -9,6 +9,7 @@ use Rattle.nx_ksys.specs.declared.thread.Search.TheVariants as search
 use Rattle.nx_ksys.specs.Threads.{flat, awaited, first_of, Woken, woken_with}
 use Rattle.nx_ksys.specs.State.{Group, Code, ThreadValue, Ending, KernelState}
 use Rattle.nx_ksys.specs.Answers.{Stays, Caller, int_out}
+use Rattle.nx_ksys.specs.Descriptors.{without_idle}
 use Rattle.nx_ksys.specs.Ends.{WithReplies, told_by, and_lost, refuse_lost, without_group, vanished, without_descriptors, nobodys, left_alone, recorded, hand_over, told_parent, end_of, end_group, exit_row, without_thread, gone, hand_value, end_thread, thread_exit_row}
 use Rattle.nx_ksys.specs.ThreadTable.{ThreadRow}
 use Rattle.nx_ksys.specs.Soundness.{IsSound}
@@ -72,7 +73,7 @@ record HasEnded (k : KernelState) (place : ℕ) (g : Group) (l : KernelState) : 
   numbers : l.numbers ≡ k.numbers
 
 has_ended : (k : KernelState) (place : ℕ) (g : Group) (e : Ending) → HasEnded k place g (recorded e (left_alone place g.number (without_descriptors place (vanished g.number k))))
-unfolding left_alone without_descriptors vanished
+unfolding left_alone without_descriptors vanished without_idle
 has_ended k place g e =
     let v = vanished g.number k in
     let d = all_closed_keeps 32 0 place v in

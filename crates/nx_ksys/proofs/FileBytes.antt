@@ -22,29 +22,33 @@ use Rattle.std.proofs.Common.{subst, arith}
 use Rattle.std.proofs.lemmas.Bool.Decides.{nat_tests}
 use Rattle.nx_base.specs.ByteLists.{AreBytes}
 use Rattle.nx_base.specs.Replies.{most_moved}
-use Rattle.nx_ksys.specs.Descriptors.{per_group, set_descriptor, lives, swept}
+use Rattle.nx_ksys.specs.Descriptors.{per_group, set_descriptor, lives, swept, queue_lives, kept_if}
 use Rattle.nx_ksys.specs.FileCalls.{longest_file, reach, with_written, written_some, with_file, with_open, with_second}
-use Rattle.nx_ksys.specs.ByteLaws.{AreOfBytes, IsOfBytes, IsInput}
+use Rattle.nx_ksys.specs.ByteLaws.{EachStanding, IsQueueOfBytes, AreOfBytes, IsOfBytes, IsInput}
 use Rattle.nx_ksys.proofs.Standing.{place_found, flat_some, within, take_short}
 use Rattle.nx_ksys.proofs.ByteWalks.{no_bytes, joined_bytes, first_bytes, later_bytes, zero_bytes, each_none, each_more, each_joined, standing_set, standing_gone}
 use Rattle.nx_ksys.proofs.PathBytes.{either_is, resolved_bytes}
-use Rattle.nx_ksys.proofs.Saying.{with_tree_bytes, with_input_bytes, one_output, Says, either, says, plain, nothing_read, fails}
+use Rattle.nx_ksys.proofs.Saying.{with_tree_bytes, with_input_bytes, with_queues_bytes, one_output, Says, either, says, plain, nothing_read, fails}
 
 -- ---- descriptors
 
-pub swept_bytes : (k : KernelState) (opens : List (Option Open)) (place : ℕ) → IsOfBytes k → AreOfBytes k.limits (swept k.tree opens place) k.groups k.sched.threads k.codes k.input
+pub swept_bytes : (k : KernelState) (opens : List (Option Open)) (place : ℕ) → IsOfBytes k → AreOfBytes k.limits (swept k.tree opens place) k.groups k.sched.threads k.codes k.input k.queues k.sending
 unfolding swept
 swept_bytes k opens place b = by_test (lives place k.tree.entries opens)
   where
-    by_test : (t : Bool) → AreOfBytes k.limits (if t then k.tree else record k.tree { files = slice_set k.tree.files place None }) k.groups k.sched.threads k.codes k.input
+    by_test : (t : Bool) → AreOfBytes k.limits (if t then k.tree else record k.tree { files = slice_set k.tree.files place None }) k.groups k.sched.threads k.codes k.input k.queues k.sending
     by_test true = b
     by_test false = with_tree_bytes k (record k.tree { files = slice_set k.tree.files place None }) b b.paths (standing_gone AreBytes k.tree.files place b.contents)
 
-target_bytes : (k : KernelState) (t : Target) → IsOfBytes k → IsOfBytes (swept_target k t)
+kept_standing : {A : Type 0} (P : A → Type 0) (b : Bool) (xs : List (Option A)) (place : ℕ) → EachStanding P xs → EachStanding P (kept_if b xs place)
+kept_standing P true xs place h = h
+kept_standing P false xs place h = standing_gone P xs place h
+
+pub target_bytes : (k : KernelState) (t : Target) → IsOfBytes k → IsOfBytes (swept_target k t)
 target_bytes k (target.File place) b = swept_bytes k k.opens place b
 target_bytes k target.Console b = b
 target_bytes k target.Null b = b
-target_bytes k (target.Queue place) b = b
+target_bytes k (target.Queue place) b = with_queues_bytes k (kept_if (queue_lives k place) k.queues place) k.sending b (kept_standing IsQueueOfBytes (queue_lives k place) k.queues place b.each_queue) b.each_sent
 target_bytes k (target.Semaphore place) b = b
 
 released_bytes : (k : KernelState) (place : ℕ) → IsOfBytes k → IsOfBytes (released k place)
@@ -167,7 +171,7 @@ free_fits descriptors place fd e =
     let i = f.is in
     omega (arith, l, s, i)
 
-describes : (k l : KernelState) (c : Caller) (to : Target) (flags : ℕ) → IsOfBytes k → IsOfBytes l → Says (describe_new k l c to flags)
+pub describes : (k l : KernelState) (c : Caller) (to : Target) (flags : ℕ) → IsOfBytes k → IsOfBytes l → Says (describe_new k l c to flags)
 describes k l c to flags b a = by_descriptor (record { target = to; flags = flags; offset = 0 }) (free_descriptor l.descriptors c.place) refl
   where
     by_place : (o : Open) (fd : ℕ) → fd < 2 ^ 32 → (place : Option ℕ) → Says (describe_at k l c o fd place)

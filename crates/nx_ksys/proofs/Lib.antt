@@ -1,5 +1,8 @@
 mod Rows
+mod Exchanges
 pub mod Counting
+pub mod EnvironmentCounts
+pub mod QueueCounts
 pub mod Counted
 pub mod Meaning
 pub mod Still
@@ -13,6 +16,9 @@ pub mod FileRows
 pub mod TreeRows
 pub mod Regrouping
 pub mod EndRows
+pub mod EnvironmentRows
+pub mod SemaphoreRows
+pub mod QueueRows
 pub mod StartRows
 pub mod ThreadRows
 pub mod Steps
@@ -23,6 +29,9 @@ pub mod Saying
 pub mod FileBytes
 pub mod TreeBytes
 pub mod EndBytes
+pub mod EnvironmentBytes
+pub mod SemaphoreBytes
+pub mod QueueBytes
 pub mod ThreadBytes
 pub mod Spoken
 pub mod Inputs

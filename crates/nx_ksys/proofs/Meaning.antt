@@ -16,6 +16,10 @@ use Rattle.nx_ksys.specs.TreeCalls.{getcwd_row, readdir_row}
 use Rattle.nx_ksys.specs.Ends.{exit_row, thread_exit_row}
 use Rattle.nx_ksys.specs.GroupCalls.{spawn_row, waitpid_row, arg_row, ps_row}
 use Rattle.nx_ksys.specs.ThreadCalls.{setpriority_row, join_row}
+use Rattle.nx_ksys.specs.QueueCalls.{mq_open_row, mq_close_row, mq_send_row, mq_receive_row, mq_timedreceive_row}
+use Rattle.nx_ksys.specs.SemaphoreCalls.{sem_open_row, sem_wait_row, sem_trywait_row, sem_post_row, sem_close_row}
+use Rattle.nx_ksys.specs.TimeCalls.{sleep_row}
+use Rattle.nx_ksys.specs.EnvironmentCalls.{getenv_row, setenv_row, env_row}
 use Rattle.nx_ksys.specs.Laws.{PointersMeanNothing}
 
 -- the i-th parameter is no pointer
@@ -79,23 +83,32 @@ row_means call.NxArgc k c words inputs = refl
 row_means call.SchedYield k c words inputs = refl
 row_means call.NxThread k c words inputs = refl
 row_means call.GetErrno k c words inputs = refl
-row_means call.NxMqOpen k c words inputs = refl
-row_means call.MqClose k c words inputs = refl
+row_means call.NxMqOpen k c words inputs = ap (λ w. mq_open_row k c (input_at inputs 0) w (word_at (without_pointers (kinds_of call.NxMqOpen) words) 2) (word_at (without_pointers (kinds_of call.NxMqOpen) words) 3)) (plain (kinds_of call.NxMqOpen) words 1 refl)
+    ∙ ap (λ w. mq_open_row k c (input_at inputs 0) (word_at words 1) w (word_at (without_pointers (kinds_of call.NxMqOpen) words) 3)) (plain (kinds_of call.NxMqOpen) words 2 refl)
+    ∙ ap (λ w. mq_open_row k c (input_at inputs 0) (word_at words 1) (word_at words 2) w) (plain (kinds_of call.NxMqOpen) words 3 refl)
+row_means call.MqClose k c words inputs = ap (λ w. mq_close_row k c w) (plain (kinds_of call.MqClose) words 0 refl)
 row_means call.MqUnlink k c words inputs = refl
-row_means call.MqSend k c words inputs = refl
-row_means call.MqReceive k c words inputs = refl
-row_means call.NxMqTimedreceive k c words inputs = refl
-row_means call.NxSemOpen k c words inputs = refl
-row_means call.NxSemWait k c words inputs = refl
-row_means call.NxSemTrywait k c words inputs = refl
-row_means call.NxSemPost k c words inputs = refl
-row_means call.NxSemClose k c words inputs = refl
-row_means call.NxSleep k c words inputs = refl
+row_means call.MqSend k c words inputs = ap (λ w. mq_send_row k c w (input_at inputs 0) (word_at (without_pointers (kinds_of call.MqSend) words) 2) (word_at (without_pointers (kinds_of call.MqSend) words) 3)) (plain (kinds_of call.MqSend) words 0 refl)
+    ∙ ap (λ w. mq_send_row k c (word_at words 0) (input_at inputs 0) w (word_at (without_pointers (kinds_of call.MqSend) words) 3)) (plain (kinds_of call.MqSend) words 2 refl)
+    ∙ ap (λ w. mq_send_row k c (word_at words 0) (input_at inputs 0) (word_at words 2) w) (plain (kinds_of call.MqSend) words 3 refl)
+row_means call.MqReceive k c words inputs = ap (λ w. mq_receive_row k c w (word_at (without_pointers (kinds_of call.MqReceive) words) 2)) (plain (kinds_of call.MqReceive) words 0 refl)
+    ∙ ap (λ w. mq_receive_row k c (word_at words 0) w) (plain (kinds_of call.MqReceive) words 2 refl)
+row_means call.NxMqTimedreceive k c words inputs = ap (λ w. mq_timedreceive_row k c w (word_at (without_pointers (kinds_of call.NxMqTimedreceive) words) 2) (word_at (without_pointers (kinds_of call.NxMqTimedreceive) words) 4)) (plain (kinds_of call.NxMqTimedreceive) words 0 refl)
+    ∙ ap (λ w. mq_timedreceive_row k c (word_at words 0) w (word_at (without_pointers (kinds_of call.NxMqTimedreceive) words) 4)) (plain (kinds_of call.NxMqTimedreceive) words 2 refl)
+    ∙ ap (λ w. mq_timedreceive_row k c (word_at words 0) (word_at words 2) w) (plain (kinds_of call.NxMqTimedreceive) words 4 refl)
+row_means call.NxSemOpen k c words inputs = ap (λ w. sem_open_row k c (input_at inputs 0) w (word_at (without_pointers (kinds_of call.NxSemOpen) words) 2)) (plain (kinds_of call.NxSemOpen) words 1 refl)
+    ∙ ap (λ w. sem_open_row k c (input_at inputs 0) (word_at words 1) w) (plain (kinds_of call.NxSemOpen) words 2 refl)
+row_means call.NxSemWait k c words inputs = ap (λ w. sem_wait_row k c w) (plain (kinds_of call.NxSemWait) words 0 refl)
+row_means call.NxSemTrywait k c words inputs = ap (λ w. sem_trywait_row k c w) (plain (kinds_of call.NxSemTrywait) words 0 refl)
+row_means call.NxSemPost k c words inputs = ap (λ w. sem_post_row k c w) (plain (kinds_of call.NxSemPost) words 0 refl)
+row_means call.NxSemClose k c words inputs = ap (λ w. sem_close_row k c w) (plain (kinds_of call.NxSemClose) words 0 refl)
+row_means call.NxSleep k c words inputs = ap (λ w. sleep_row k c w) (plain (kinds_of call.NxSleep) words 0 refl)
 row_means call.NxTicks k c words inputs = refl
-row_means call.NxGetenv k c words inputs = refl
-row_means call.Setenv k c words inputs = refl
+row_means call.NxGetenv k c words inputs = ap (λ w. getenv_row k c (input_at inputs 0) w) (plain (kinds_of call.NxGetenv) words 2 refl)
+row_means call.Setenv k c words inputs = ap (λ w. setenv_row k c (input_at inputs 0) (input_at inputs 1) w) (plain (kinds_of call.Setenv) words 2 refl)
 row_means call.Unsetenv k c words inputs = refl
-row_means call.NxEnv k c words inputs = refl
+row_means call.NxEnv k c words inputs = ap (λ w. env_row k c w (word_at (without_pointers (kinds_of call.NxEnv) words) 2)) (plain (kinds_of call.NxEnv) words 0 refl)
+    ∙ ap (λ w. env_row k c (word_at words 0) w) (plain (kinds_of call.NxEnv) words 2 refl)
 
 words_twice : (which : Option KCall) (words : List ℕ) → meant_words which (meant_words which words) ≡ meant_words which words
 words_twice None words = refl

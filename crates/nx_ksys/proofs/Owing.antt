@@ -10,19 +10,27 @@ use Rattle.nx_base.specs.declared.calls.KCall.{KCall}
 use Rattle.nx_base.specs.declared.errno.Errno.{Errno}
 use Rattle.nx_base.specs.declared.errno.Errno.TheVariants as errno
 use Rattle.nx_ksys.specs.declared.thread.Asked.{Asked}
-use Rattle.nx_ksys.specs.declared.thread.Doing.TheVariants.{Waits}
 use Rattle.nx_ksys.specs.declared.thread.Thread.{Thread}
 use Rattle.nx_ksys.specs.declared.thread.Wait.{Wait}
 use Rattle.nx_ksys.specs.Telling.{both, reply, failure}
-use Rattle.nx_ksys.specs.Threads.{thread_of, changed, change_thread, with_error, block}
-use Rattle.nx_ksys.specs.State.{Group, KernelState}
-use Rattle.nx_ksys.specs.Answers.{Stays, Stepped, Caller, with_errno, replied, failed, waits, text_out}
-use Rattle.nx_ksys.specs.ThreadTable.{WaitingCall, ThreadRow}
+use Rattle.nx_ksys.specs.Threads.{thread_of, changed, change_thread, with_error, awaited, begin_wait, block, Woken}
+use Rattle.nx_ksys.specs.State.{Message, Group, KernelState}
+use Rattle.nx_ksys.specs.Answers.{Stays, Stepped, Caller, with_errno, replied, replied_then, failed, waits, text_out}
+use Rattle.nx_ksys.specs.ThreadTable.{WaitingCall, ThreadRow, waits_in}
 use Rattle.nx_ksys.specs.Soundness.{Stands, Agrees, AreSound, IsSound}
 use Rattle.nx_ksys.specs.TableLaws.{Table, set_at, waiting, ready, made_ready, after_replies, after_effect, kinds_in, IsAllowed}
 use Rattle.nx_ksys.proofs.Standing.{some_same, length_map}
 use Rattle.nx_ksys.proofs.Tables.{set_at_same, set_id, set_set, row_of, row_in, table_of, thread_only, table_kept, table_changed, sound_changed}
-use Rattle.nx_ksys.proofs.Waking.{AreFit, no_replies, call_of, nothing_fits, errno_waits}
+use Rattle.nx_ksys.proofs.Waking.{AreFit, no_replies, call_of, nothing_fits, errno_waits, Wakes}
+
+-- a wait that begins
+begun_waits : (t : Thread) (a : Asked) (moment : ℕ) (for : Wait) (deadline : Option ℕ) → waits_in (record t { doing = begin_wait moment for deadline; asked = a }) ≡ Some (call_of a)
+begun_waits t a moment for None = refl
+begun_waits t a moment for (Some deadline) = refl
+
+begun_awaits : (moment : ℕ) (for : Wait) (deadline : Option ℕ) → awaited (begin_wait moment for deadline) ≡ Some for
+begun_awaits moment for None = refl
+begun_awaits moment for (Some deadline) = refl
 
 -- the table of a state
 abbrev pub tab : KernelState → Table
@@ -158,17 +166,43 @@ module _ (k : KernelState) (c : Caller) (x : ThreadRow) (h : Calls k c) where
   pub caller_row : IsReady k c.thread.number x → row_of k.sched.threads k.groups c.thread ≡ ready x
   caller_row r = some_same (row_of k.sched.threads k.groups c.thread) (ready x) (sym (ap (row_in k.sched.threads k.groups) found) ∙ r)
 
-  -- the caller waits
-  pub blocks : (for : Wait) → Agrees (Some for) c.asked → Lawful k c x (waits k c for None)
+  -- the caller waits, perhaps with a message that it sends
+  pub blocks_sending : (sending : List (Option Message)) (for : Wait) (deadline : Option ℕ) → Agrees (Some for) c.asked → Lawful k c x (waits (record k { sending = sending }) c for deadline)
   unfolding block change_thread
-  blocks for agrees = record {
+  blocks_sending sending for deadline agrees = record {
     owes = record {
       effect = λ r. tt;
       fit = λ r. tt;
-      table = λ r. fun_ext (λ m. table_changed (λ u. record u { doing = Waits for k.sched.moments; asked = c.asked }) (λ u. refl) (λ u. refl) c.thread.number k.sched.threads k.groups c.thread found refl m)
+      table = λ r. fun_ext (λ m. table_changed (λ u. record u { doing = begin_wait k.sched.moments for deadline; asked = c.asked }) (λ u. refl) (λ u. refl) c.thread.number k.sched.threads k.groups c.thread found refl m)
+          ∙ ap (λ w. set_at (tab k) c.thread.number (Some (let y : ThreadRow = record (row_of k.sched.threads k.groups c.thread) { waits = w } in y))) (begun_waits c.thread c.asked k.sched.moments for deadline)
           ∙ ap (λ y. set_at (tab k) c.thread.number (Some (waiting y (call_of c.asked)))) (caller_row r)
           ∙ sym (no_replies (waits_table k c x));
-      sound = sound_changed (λ u. record u { doing = Waits for k.sched.moments; asked = c.asked }) (λ u. refl) (λ u. refl) c.thread.number k.sched.threads k.groups k.numbers h.sound (λ r u a q. agrees);
-      slots = length_map (changed c.thread.number (λ u. record u { doing = Waits for k.sched.moments; asked = c.asked })) k.sched.threads;
+      sound = sound_changed (λ u. record u { doing = begin_wait k.sched.moments for deadline; asked = c.asked }) (λ u. refl) (λ u. refl) c.thread.number k.sched.threads k.groups k.numbers h.sound
+          (λ r u a q. subst (λ w. Agrees w c.asked) (sym (begun_awaits k.sched.moments for deadline)) agrees);
+      slots = length_map (changed c.thread.number (λ u. record u { doing = begin_wait k.sched.moments for deadline; asked = c.asked })) k.sched.threads;
     };
   }
+
+  pub blocks : (for : Wait) (deadline : Option ℕ) → Agrees (Some for) c.asked → Lawful k c x (waits k c for deadline)
+  blocks for deadline agrees = blocks_sending k.sending for deadline agrees
+
+  -- the caller is answered, and then others go on
+  pub answers_then : (l : KernelState) (value : ℕ) (outputs : List (List ℕ)) (w : Woken) → Keeps k l → FitsCall (kinds_in c.asked.call) c.asked.words (both outputs) → Wakes k.groups k.numbers k.sched w → Lawful k c x (replied_then l c value outputs w)
+  answers_then l value outputs w keep f wakes =
+      let told : Table = waits_table k c x in
+      let answered : (t : Table) → Type 0 = λ t. AreFit t w.replies in
+      record {
+        owes = record {
+          effect = λ r. tt;
+          fit = λ r. (
+            (caller_fits (tab k) x (call_of c.asked) (reply c.thread.number value outputs) f).0,
+            subst answered (sym (ap (λ o. set_at told c.thread.number (made_ready o)) (set_at_same (tab k) c.thread.number (Some (waiting x (call_of c.asked))))
+                ∙ set_set (tab k) c.thread.number (Some (waiting x (call_of c.asked))) (Some (ready x))
+                ∙ set_id (tab k) c.thread.number (Some (ready x)) r)) wakes.fit,
+          );
+          table = λ r. ap (table_of w.sched.threads) keep.groups ∙ wakes.table ∙ sym (ap (λ t. after_replies t w.replies) (set_id (tab k) c.thread.number (Some (ready x)) r))
+              ∙ sym (caller_replied (tab k) x (call_of c.asked) (reply c.thread.number value outputs) w.replies);
+          sound = sound_at (record l { sched = w.sched }) w.sched.threads k.groups k.numbers refl keep.groups keep.numbers wakes.sound;
+          slots = wakes.slots;
+        };
+      }

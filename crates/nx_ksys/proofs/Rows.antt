@@ -14,7 +14,7 @@ use Rattle.nx_ksys.specs.ThreadTable.{threads}
 use Rattle.nx_ksys.specs.Ends.{first_lost, vanished, without_descriptors, left_alone, told_parent, end_group, exit_row}
 use Rattle.nx_ksys.specs.Threads.{thread_of, slot_of, first_of, change_thread, wake, block, with_error}
 use Rattle.nx_ksys.specs.Paths.{normal, node_at, resolved}
-use Rattle.nx_ksys.specs.Descriptors.{opened, free_descriptor, swept, released, closed}
+use Rattle.nx_ksys.specs.Descriptors.{opened, free_descriptor, swept, without_idle, released, closed}
 use Rattle.nx_ksys.specs.FileCalls.{with_written, write_row, open_row, close_row}
 use Rattle.nx_ksys.specs.TreeCalls.{unlink_row, mkdir_row, rename_row}
 use Rattle.nx_ksys.specs.GroupCalls.{spawn_row, waitpid_row}
@@ -103,5 +103,5 @@ unfolding booted step threads thread_of slot_of spawn_row waitpid_row resolved n
 it_waits_without_its_pointer = refl
 
 its_child_ends_with_7 : (step parent_waits 2 (Some call.Exit) (7 ∷ []) []).replies ≡ reply 1 2 ((7 ∷ 0 ∷ 0 ∷ 0 ∷ []) ∷ []) ∷ []
-unfolding booted step thread_of spawn_row waitpid_row exit_row end_group told_parent first_of first_lost vanished without_descriptors left_alone closed released swept resolved normal node_at change_thread block wake to_le
+unfolding booted step thread_of spawn_row waitpid_row exit_row end_group told_parent first_of first_lost vanished without_idle without_descriptors left_alone closed released swept resolved normal node_at change_thread block wake to_le
 its_child_ends_with_7 = refl

@@ -12,9 +12,9 @@ use Rattle.nx_ksys.specs.declared.thread.Thread.{Thread}
 use Rattle.nx_ksys.specs.declared.thread.Wait.{Wait}
 use Rattle.nx_ksys.specs.Telling.{both, reply, failure}
 use Rattle.nx_ksys.specs.Threads.{changed, change_thread, with_error, block}
-use Rattle.nx_ksys.specs.State.{Group, Code, FileTree, KernelState}
+use Rattle.nx_ksys.specs.State.{FileTree, Message, Queue, Group, Code, KernelState}
 use Rattle.nx_ksys.specs.Answers.{Stepped, Caller, with_errno, replied, failed, silent, waits, text_out, int_out}
-use Rattle.nx_ksys.specs.ByteLaws.{Each, EachStanding, IsGroupOfBytes, IsThreadOfBytes, IsCodeOfWord, AreOfBytes, IsOfBytes, IsTold}
+use Rattle.nx_ksys.specs.ByteLaws.{Each, EachStanding, IsGroupOfBytes, IsThreadOfBytes, IsCodeOfWord, IsMessageOfBytes, IsQueueOfBytes, AreOfBytes, IsOfBytes, IsTold}
 use Rattle.nx_ksys.proofs.Standing.{some_same, none_some}
 use Rattle.nx_ksys.proofs.ByteWalks.{no_bytes, more_bytes, joined_bytes, number_bytes, each_none, each_more, all_from_each, standing_changed}
 
@@ -74,20 +74,23 @@ changed_bytes f n ts keep h = standing_changed IsThreadOfBytes (changed n f) ts 
     by_one None y e g = absurd (none_some y e)
     by_one (Some t) y e g = by_test t y (t.number == n) e (g t refl)
 
-pub with_threads_bytes : (k : KernelState) (ts : List (Option Thread)) → IsOfBytes k → EachStanding IsThreadOfBytes ts → AreOfBytes k.limits k.tree k.groups ts k.codes k.input
-with_threads_bytes k ts h t = record { names = h.names; paths = h.paths; contents = h.contents; each_group = h.each_group; each_thread = t; children = h.children; rest = h.rest }
+pub with_threads_bytes : (k : KernelState) (ts : List (Option Thread)) → IsOfBytes k → EachStanding IsThreadOfBytes ts → AreOfBytes k.limits k.tree k.groups ts k.codes k.input k.queues k.sending
+with_threads_bytes k ts h t = record { names = h.names; paths = h.paths; contents = h.contents; each_group = h.each_group; each_thread = t; children = h.children; rest = h.rest; each_queue = h.each_queue; each_sent = h.each_sent }
 
-pub with_tree_bytes : (k : KernelState) (tree : FileTree) → IsOfBytes k → Each (λ e. AreBytes e.0) tree.entries → EachStanding AreBytes tree.files → AreOfBytes k.limits tree k.groups k.sched.threads k.codes k.input
-with_tree_bytes k tree h p c = record { names = h.names; paths = p; contents = c; each_group = h.each_group; each_thread = h.each_thread; children = h.children; rest = h.rest }
+pub with_tree_bytes : (k : KernelState) (tree : FileTree) → IsOfBytes k → Each (λ e. AreBytes e.0) tree.entries → EachStanding AreBytes tree.files → AreOfBytes k.limits tree k.groups k.sched.threads k.codes k.input k.queues k.sending
+with_tree_bytes k tree h p c = record { names = h.names; paths = p; contents = c; each_group = h.each_group; each_thread = h.each_thread; children = h.children; rest = h.rest; each_queue = h.each_queue; each_sent = h.each_sent }
 
-pub with_groups_bytes : (k : KernelState) (gs : List (Option Group)) → IsOfBytes k → EachStanding IsGroupOfBytes gs → AreOfBytes k.limits k.tree gs k.sched.threads k.codes k.input
-with_groups_bytes k gs h g = record { names = h.names; paths = h.paths; contents = h.contents; each_group = g; each_thread = h.each_thread; children = h.children; rest = h.rest }
+pub with_groups_bytes : (k : KernelState) (gs : List (Option Group)) → IsOfBytes k → EachStanding IsGroupOfBytes gs → AreOfBytes k.limits k.tree gs k.sched.threads k.codes k.input k.queues k.sending
+with_groups_bytes k gs h g = record { names = h.names; paths = h.paths; contents = h.contents; each_group = g; each_thread = h.each_thread; children = h.children; rest = h.rest; each_queue = h.each_queue; each_sent = h.each_sent }
 
-pub with_codes_bytes : (k : KernelState) (cs : List Code) → IsOfBytes k → Each IsCodeOfWord cs → AreOfBytes k.limits k.tree k.groups k.sched.threads cs k.input
-with_codes_bytes k cs h c = record { names = h.names; paths = h.paths; contents = h.contents; each_group = h.each_group; each_thread = h.each_thread; children = c; rest = h.rest }
+pub with_codes_bytes : (k : KernelState) (cs : List Code) → IsOfBytes k → Each IsCodeOfWord cs → AreOfBytes k.limits k.tree k.groups k.sched.threads cs k.input k.queues k.sending
+with_codes_bytes k cs h c = record { names = h.names; paths = h.paths; contents = h.contents; each_group = h.each_group; each_thread = h.each_thread; children = c; rest = h.rest; each_queue = h.each_queue; each_sent = h.each_sent }
 
-pub with_input_bytes : (k : KernelState) (input : List ℕ) → IsOfBytes k → AreBytes input → AreOfBytes k.limits k.tree k.groups k.sched.threads k.codes input
-with_input_bytes k input h i = record { names = h.names; paths = h.paths; contents = h.contents; each_group = h.each_group; each_thread = h.each_thread; children = h.children; rest = i }
+pub with_input_bytes : (k : KernelState) (input : List ℕ) → IsOfBytes k → AreBytes input → AreOfBytes k.limits k.tree k.groups k.sched.threads k.codes input k.queues k.sending
+with_input_bytes k input h i = record { names = h.names; paths = h.paths; contents = h.contents; each_group = h.each_group; each_thread = h.each_thread; children = h.children; rest = i; each_queue = h.each_queue; each_sent = h.each_sent }
+
+pub with_queues_bytes : (k : KernelState) (qs : List (Option Queue)) (ms : List (Option Message)) → IsOfBytes k → EachStanding IsQueueOfBytes qs → EachStanding IsMessageOfBytes ms → AreOfBytes k.limits k.tree k.groups k.sched.threads k.codes k.input qs ms
+with_queues_bytes k qs ms h q m = record { names = h.names; paths = h.paths; contents = h.contents; each_group = h.each_group; each_thread = h.each_thread; children = h.children; rest = h.rest; each_queue = q; each_sent = m }
 
 pub errno_bytes : (k : KernelState) (n : ℕ) (e : Errno) → IsOfBytes k → IsOfBytes (with_errno k n e)
 unfolding with_error
@@ -120,10 +123,10 @@ fails l c e h = record { kept = errno_bytes l c.thread.number e h; told = one_to
 pub quiet : (l : KernelState) → IsOfBytes l → Says (silent l)
 quiet l h = record { kept = h; told = each_none IsTold }
 
-pub blocks : (k : KernelState) (c : Caller) (for : Wait) → IsOfBytes k → Says (waits k c for None)
+pub blocks : (k : KernelState) (c : Caller) (for : Wait) (deadline : Option ℕ) → IsOfBytes k → Says (waits k c for deadline)
 unfolding block
-blocks k c for h = quiet (record k { sched = block k.sched c.thread.number c.asked for None })
-    (with_threads_bytes k (block k.sched c.thread.number c.asked for None).threads h
+blocks k c for deadline h = quiet (record k { sched = block k.sched c.thread.number c.asked for deadline })
+    (with_threads_bytes k (block k.sched c.thread.number c.asked for deadline).threads h
     (changed_bytes _ c.thread.number k.sched.threads (λ t g. let p = g.priority in let e = g.errno in record { priority = p; errno = e }) h.each_thread))
 
 pub texts : (k : KernelState) (c : Caller) (size : ℕ) (text : List ℕ) → IsOfBytes k → AreBytes text → Says (text_out k c size text)

@@ -1,8 +1,7 @@
 -- Each call tells words and bytes, and so does boot's state.
-use Rattle.std.proofs.Common.{◌≡◌, ℕ, ◌+◌, ◌<◌, ◌^◌, Bool, true, List, [], ◌∷◌, ◌++◌, length, Option, Some, None, refl, sym, subst, arith}
-use Rattle.std.specs.Prelude.{codes, nat_lt, ◌&&◌}
+use Rattle.std.proofs.Common.{◌≡◌, ℕ, suc, ◌+◌, ◌<◌, ◌^◌, Bool, true, List, [], ◌∷◌, ◌++◌, length, Option, Some, None, refl, sym, subst, arith}
+use Rattle.std.specs.Prelude.{codes, ◌&&◌}
 use Rattle.std.proofs.lemmas.Bool.{and_parts}
-use Rattle.std.proofs.lemmas.Bool.Decides.{nat_tests}
 use Rattle.nx_base.specs.ByteLists.{AreBytes}
 use Rattle.nx_base.specs.declared.calls.KCall.{KCall}
 use Rattle.nx_base.specs.declared.calls.KCall.TheVariants as call
@@ -17,12 +16,15 @@ use Rattle.nx_ksys.specs.Step.{row_of, asked, counted, step}
 use Rattle.nx_ksys.specs.Boot.{booted, shell, shell_thread, fixed, program_nodes, first_entries}
 use Rattle.nx_ksys.specs.Soundness.{Stands, IsSound}
 use Rattle.nx_ksys.specs.ByteLaws.{Each, IsGroupOfBytes, IsThreadOfBytes, IsCodeOfWord, IsOfBytes, IsInput, BootIsOfBytes, CallsTellBytes, ChoicesTellBytes}
-use Rattle.nx_ksys.proofs.ByteWalks.{no_bytes, more_bytes, joined_bytes, each_none, each_more, each_joined, each_rest, each_or}
+use Rattle.nx_ksys.proofs.ByteWalks.{no_bytes, joined_bytes, are_small, text_bytes, each_none, each_more, each_joined, each_rest, each_or}
 use Rattle.nx_ksys.proofs.Starting.{nothing_more, first_alone}
 use Rattle.nx_ksys.proofs.Steps.{caller, found, step_is, nobody}
 use Rattle.nx_ksys.proofs.Saying.{Says, plain, quiet, fails}
 use Rattle.nx_ksys.proofs.FileBytes.{write_says, read_says, open_says, close_says, lseek_says, dup_says, dup2_says}
 use Rattle.nx_ksys.proofs.TreeBytes.{unlink_says, mkdir_says, rmdir_says, rename_says, chdir_says, getcwd_says, readdir_says, kind_says}
+use Rattle.nx_ksys.proofs.EnvironmentBytes.{sleep_says, ticks_says, getenv_says, setenv_says, unsetenv_says, env_says}
+use Rattle.nx_ksys.proofs.SemaphoreBytes.{sem_open_says, sem_wait_says, sem_trywait_says, sem_post_says, sem_close_says}
+use Rattle.nx_ksys.proofs.QueueBytes.{mq_open_says, mq_close_says, mq_unlink_says, mq_send_says, mq_receive_says, mq_timedreceive_says}
 use Rattle.nx_ksys.proofs.EndBytes.{exit_says, thread_exit_says, choice_tells}
 use Rattle.nx_ksys.proofs.ThreadBytes.{spawn_says, thread_says, waitpid_says, arg_says, ps_says, priority_says, yield_says, join_says, errno_says}
 
@@ -78,7 +80,23 @@ module _ (k : KernelState) (t : Thread) (place : ℕ) (g : Group) (words : List 
   row_says call.NxThreadExit = thread_exit_says k (caller t place g (Some call.NxThreadExit) words) b (word_at words 0) (group_word k sound place)
   row_says call.NxJoin = join_says k (caller t place g (Some call.NxJoin) words) b (word_at words 0)
   row_says call.GetErrno = errno_says k (caller t place g (Some call.GetErrno) words) b known
-  row_says other = fails k (caller t place g (Some other) words) errno.Enosys b
+  row_says call.NxMqOpen = mq_open_says k (caller t place g (Some call.NxMqOpen) words) b (input_at inputs 0) (word_at words 1) (word_at words 2) (word_at words 3) (text 0)
+  row_says call.MqClose = mq_close_says k (caller t place g (Some call.MqClose) words) b (word_at words 0)
+  row_says call.MqUnlink = mq_unlink_says k (caller t place g (Some call.MqUnlink) words) b (input_at inputs 0)
+  row_says call.MqSend = mq_send_says k (caller t place g (Some call.MqSend) words) b (word_at words 0) (input_at inputs 0) (word_at words 2) (word_at words 3) (text 0)
+  row_says call.MqReceive = mq_receive_says k (caller t place g (Some call.MqReceive) words) b (word_at words 0) (word_at words 2)
+  row_says call.NxMqTimedreceive = mq_timedreceive_says k (caller t place g (Some call.NxMqTimedreceive) words) b (word_at words 0) (word_at words 2) (word_at words 4)
+  row_says call.NxSemOpen = sem_open_says k (caller t place g (Some call.NxSemOpen) words) b (input_at inputs 0) (word_at words 1) (word_at words 2)
+  row_says call.NxSemWait = sem_wait_says k (caller t place g (Some call.NxSemWait) words) b (word_at words 0)
+  row_says call.NxSemTrywait = sem_trywait_says k (caller t place g (Some call.NxSemTrywait) words) b (word_at words 0)
+  row_says call.NxSemPost = sem_post_says k (caller t place g (Some call.NxSemPost) words) b (word_at words 0)
+  row_says call.NxSemClose = sem_close_says k (caller t place g (Some call.NxSemClose) words) b (word_at words 0)
+  row_says call.NxSleep = sleep_says k (caller t place g (Some call.NxSleep) words) b (word_at words 0)
+  row_says call.NxTicks = ticks_says k (caller t place g (Some call.NxTicks) words) b
+  row_says call.NxGetenv = getenv_says k (caller t place g (Some call.NxGetenv) words) b (input_at inputs 0) (word_at words 2) its
+  row_says call.Setenv = setenv_says k (caller t place g (Some call.Setenv) words) b (input_at inputs 0) (input_at inputs 1) (word_at words 2) its (text 0) (text 1)
+  row_says call.Unsetenv = unsetenv_says k (caller t place g (Some call.Unsetenv) words) b (input_at inputs 0) its
+  row_says call.NxEnv = env_says k (caller t place g (Some call.NxEnv) words) b (word_at words 0) (word_at words 2) its
 
   asked_says : (which : Option KCall) → Says (asked which k (caller t place g which words) words inputs)
   asked_says None = fails k (caller t place g None words) errno.Enosys b
@@ -100,15 +118,6 @@ pub choices_tell_bytes : ChoicesTellBytes
 choices_tell_bytes k sound b = choice_tells k b
 
 -- ---- boot
-
--- numbers below 256, by a test
-abbrev are_small : List ℕ → Bool
-are_small [] = true
-are_small (b ∷ bs) = nat_lt b 256 && are_small bs
-
-text_bytes : (bs : List ℕ) → are_small bs ≡ true → AreBytes bs
-text_bytes [] e = no_bytes
-text_bytes (b ∷ bs) e = let p = and_parts (nat_lt b 256) (are_small bs) e in let q = p.0 in more_bytes b bs (grind (arith, nat_tests)) (text_bytes bs p.1)
 
 node_paths : (place : ℕ) (names : List (List ℕ)) → Each AreBytes names → Each (λ e. AreBytes e.0) (program_nodes place names)
 node_paths place [] h = each_none (λ e. AreBytes e.0)
@@ -133,8 +142,10 @@ boot_is_of_bytes limits others input late names i = record {
   names = names;
   paths = first_paths limits.programs names;
   contents = λ p x h. absurd (nothing_more limits.objects p x h);
-  each_group = λ p g h. subst IsGroupOfBytes (sym (first_alone (shell limits) g others p h).1) (record { directory = no_bytes; arguments = each_more AreBytes (codes "nsh") [] (text_bytes (codes "nsh") refl) (each_none AreBytes); few = omega arith });
+  each_group = λ p g h. subst IsGroupOfBytes (sym (first_alone (shell limits) g others p h).1) (record { directory = no_bytes; arguments = each_more AreBytes (codes "nsh") [] (text_bytes (codes "nsh") refl) (each_none AreBytes); few = omega arith; names = each_none (λ v. AreBytes v.0); values = each_none (λ v. AreBytes v.1) });
   each_thread = λ p t h. subst IsThreadOfBytes (sym (first_alone shell_thread t others p h).1) (record { priority = omega arith; errno = omega arith });
   children = each_none IsCodeOfWord;
   rest = i;
+  each_queue = λ p q h. absurd (nothing_more limits.objects p q h);
+  each_sent = λ p m h. absurd (nothing_more (suc others) p m h);
 }

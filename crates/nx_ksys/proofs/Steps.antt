@@ -1,8 +1,9 @@
 -- Each call changes the table as its answers say, and leaves a sound state.
-use Rattle.std.proofs.Common.{◌≡◌, ℕ, suc, ◌<◌, ◌≤◌, List, [], ◌∷◌, length, Option, Some, None, refl, sym, ap, ◌∙◌, subst, arith}
+use Rattle.std.proofs.Common.{◌≡◌, ℕ, suc, ◌<◌, ◌≤◌, inl, inr, List, [], ◌∷◌, length, Option, Some, None, refl, sym, ap, ◌∙◌, subst, arith}
 use mathlib.Core.Path.{fun_ext}
 use Rattle.std.specs.Prelude.{slice_get, if◌then◌else◌}
 use Rattle.nx_base.specs.KernelCalls.{kinds_of}
+use Rattle.nx_base.proofs.ByteLemmas.{length-to_le}
 use Rattle.nx_base.specs.declared.calls.Kind.{Kind}
 use Rattle.nx_base.specs.declared.calls.KCall.{KCall}
 use Rattle.nx_base.specs.declared.calls.KCall.TheVariants as call
@@ -24,6 +25,9 @@ use Rattle.nx_ksys.proofs.FileRows.{write_lawful, read_lawful, open_lawful, clos
 use Rattle.nx_ksys.proofs.TreeRows.{unlink_lawful, mkdir_lawful, rmdir_lawful, rename_lawful, chdir_lawful, getcwd_lawful, readdir_lawful, kind_lawful}
 use Rattle.nx_ksys.proofs.EndRows.{exit_owes, thread_exit_owes}
 use Rattle.nx_ksys.proofs.StartRows.{spawn_lawful, thread_lawful}
+use Rattle.nx_ksys.proofs.EnvironmentRows.{sleep_lawful, ticks_lawful, getenv_lawful, setenv_lawful, unsetenv_lawful, env_lawful}
+use Rattle.nx_ksys.proofs.SemaphoreRows.{sem_open_lawful, sem_wait_lawful, sem_trywait_lawful, sem_post_lawful, sem_close_lawful}
+use Rattle.nx_ksys.proofs.QueueRows.{TakesMessage, mq_open_lawful, mq_close_lawful, mq_unlink_lawful, mq_send_lawful, mq_receive_lawful, mq_timedreceive_lawful}
 use Rattle.nx_ksys.proofs.ThreadRows.{waitpid_lawful, arg_lawful, ps_lawful, priority_lawful, yield_lawful, join_lawful, errno_lawful}
 
 -- ---- what a call's words leave room for
@@ -62,6 +66,33 @@ takes_name (a ∷ []) le = absurd (omega (arith, le))
 takes_name (a ∷ b ∷ []) le = absurd (omega (arith, le))
 takes_name (a ∷ b ∷ c ∷ []) le = absurd (omega (arith, le))
 takes_name (a ∷ b ∷ c ∷ d ∷ words) le = λ o fits. (fits, (refl, tt))
+
+takes_value : (words : List ℕ) → 3 ≤ length words → Takes (meant_call (Some call.NxGetenv) words) (word_at words 2)
+takes_value [] le = absurd (omega (arith, le))
+takes_value (a ∷ []) le = absurd (omega (arith, le))
+takes_value (a ∷ b ∷ []) le = absurd (omega (arith, le))
+takes_value (a ∷ b ∷ c ∷ words) le = λ o fits. (fits, (refl, tt))
+
+takes_variable : (words : List ℕ) → 3 ≤ length words → Takes (meant_call (Some call.NxEnv) words) (word_at words 2)
+takes_variable [] le = absurd (omega (arith, le))
+takes_variable (a ∷ []) le = absurd (omega (arith, le))
+takes_variable (a ∷ b ∷ []) le = absurd (omega (arith, le))
+takes_variable (a ∷ b ∷ c ∷ words) le = λ o fits. (fits, (refl, tt))
+
+takes_message : (words : List ℕ) → 4 ≤ length words → TakesMessage (meant_call (Some call.MqReceive) words) (word_at words 2)
+takes_message [] le = absurd (omega (arith, le))
+takes_message (a ∷ []) le = absurd (omega (arith, le))
+takes_message (a ∷ b ∷ []) le = absurd (omega (arith, le))
+takes_message (a ∷ b ∷ c ∷ []) le = absurd (omega (arith, le))
+takes_message (a ∷ b ∷ c ∷ d ∷ words) le = λ o n fits. (fits, (let e = length-to_le 4 n in omega (arith, e), tt))
+
+takes_timed_message : (words : List ℕ) → 5 ≤ length words → TakesMessage (meant_call (Some call.NxMqTimedreceive) words) (word_at words 2)
+takes_timed_message [] le = absurd (omega (arith, le))
+takes_timed_message (a ∷ []) le = absurd (omega (arith, le))
+takes_timed_message (a ∷ b ∷ []) le = absurd (omega (arith, le))
+takes_timed_message (a ∷ b ∷ c ∷ []) le = absurd (omega (arith, le))
+takes_timed_message (a ∷ b ∷ c ∷ d ∷ []) le = absurd (omega (arith, le))
+takes_timed_message (a ∷ b ∷ c ∷ d ∷ f ∷ words) le = λ o n fits. (fits, (let e = length-to_le 4 n in omega (arith, e), tt))
 
 -- ---- each row
 
@@ -102,7 +133,25 @@ module _ (k : KernelState) (t : Thread) (place : ℕ) (g : Group) (x : ThreadRow
   row_owes call.NxThreadExit h le = thread_exit_owes k (caller t place g (Some call.NxThreadExit) words) x h (Some call.NxThreadExit) (word_at words 0) refl
   row_owes call.NxJoin h le = (join_lawful k (caller t place g (Some call.NxJoin) words) x h (word_at words 0) (record { call = refl; words = let e = length_plain (kinds_of call.NxJoin) words in omega (arith, e, le) })).owes
   row_owes call.GetErrno h le = (errno_lawful k (caller t place g (Some call.GetErrno) words) x h).owes
-  row_owes other h le = (fails k (caller t place g (Some other) words) x h errno.Enosys).owes
+  row_owes call.NxMqOpen h le = (mq_open_lawful k (caller t place g (Some call.NxMqOpen) words) x h (input_at inputs 0) (word_at words 1) (word_at words 2) (word_at words 3)).owes
+  row_owes call.MqClose h le = (mq_close_lawful k (caller t place g (Some call.MqClose) words) x h (word_at words 0)).owes
+  row_owes call.MqUnlink h le = (mq_unlink_lawful k (caller t place g (Some call.MqUnlink) words) x h (input_at inputs 0)).owes
+  row_owes call.MqSend h le = (mq_send_lawful k (caller t place g (Some call.MqSend) words) x h (word_at words 0) (input_at inputs 0) (word_at words 2) (word_at words 3)).owes
+  row_owes call.MqReceive h le = (mq_receive_lawful k (caller t place g (Some call.MqReceive) words) x h (word_at words 0) (word_at words 2)
+      (inl (record { call = refl; words = let e = length_plain (kinds_of call.MqReceive) words in omega (arith, e, le) })) (takes_message words le)).owes
+  row_owes call.NxMqTimedreceive h le = (mq_timedreceive_lawful k (caller t place g (Some call.NxMqTimedreceive) words) x h (word_at words 0) (word_at words 2) (word_at words 4)
+      (inr (record { call = refl; words = let e = length_plain (kinds_of call.NxMqTimedreceive) words in omega (arith, e, le) })) (takes_timed_message words le)).owes
+  row_owes call.NxSemOpen h le = (sem_open_lawful k (caller t place g (Some call.NxSemOpen) words) x h (input_at inputs 0) (word_at words 1) (word_at words 2)).owes
+  row_owes call.NxSemWait h le = (sem_wait_lawful k (caller t place g (Some call.NxSemWait) words) x h (word_at words 0)).owes
+  row_owes call.NxSemTrywait h le = (sem_trywait_lawful k (caller t place g (Some call.NxSemTrywait) words) x h (word_at words 0)).owes
+  row_owes call.NxSemPost h le = (sem_post_lawful k (caller t place g (Some call.NxSemPost) words) x h (word_at words 0)).owes
+  row_owes call.NxSemClose h le = (sem_close_lawful k (caller t place g (Some call.NxSemClose) words) x h (word_at words 0)).owes
+  row_owes call.NxSleep h le = (sleep_lawful k (caller t place g (Some call.NxSleep) words) x h (word_at words 0)).owes
+  row_owes call.NxTicks h le = (ticks_lawful k (caller t place g (Some call.NxTicks) words) x h).owes
+  row_owes call.NxGetenv h le = (getenv_lawful k (caller t place g (Some call.NxGetenv) words) x h (input_at inputs 0) (word_at words 2) (takes_value words le)).owes
+  row_owes call.Setenv h le = (setenv_lawful k (caller t place g (Some call.Setenv) words) x h (input_at inputs 0) (input_at inputs 1) (word_at words 2)).owes
+  row_owes call.Unsetenv h le = (unsetenv_lawful k (caller t place g (Some call.Unsetenv) words) x h (input_at inputs 0)).owes
+  row_owes call.NxEnv h le = (env_lawful k (caller t place g (Some call.NxEnv) words) x h (word_at words 0) (word_at words 2) (takes_variable words le)).owes
 
   asked_owes : (which : Option KCall) → Calls k (caller t place g which words) → length (kinds_in which) ≤ length words → Owes k t.number x which (gone_or_waits k t.number x which words) (asked which k (caller t place g which words) words inputs)
   asked_owes None h le = (fails k (caller t place g None words) x h errno.Enosys).owes

@@ -8,6 +8,7 @@ use Rattle.nx_ksys.specs.declared.thread.Search.TheVariants as search
 use Rattle.nx_ksys.specs.declared.pick.Pick.TheVariants.{Run, Ended}
 use Rattle.nx_ksys.specs.Threads.{first_of}
 use Rattle.nx_ksys.specs.State.{KernelState}
+use Rattle.nx_ksys.specs.Descriptors.{without_idle}
 use Rattle.nx_ksys.specs.Picking.{Picked, passed, passed_if, advanced, runs, picked_after, picked}
 use Rattle.nx_ksys.specs.Laws.{IsStill}
 
@@ -15,7 +16,7 @@ still_refl : (k : KernelState) → IsStill k k
 still_refl k = record { calls = refl; console = refl; ended = refl; groups = refl }
 
 advanced_still : (k : KernelState) → IsStill k (advanced k).to
-unfolding advanced
+unfolding advanced without_idle
 advanced_still k = by_ready (first_of search.Ready k.sched.threads)
   where
     by_timed : (t : Option Thread) → IsStill k (passed k t).to

@@ -45,10 +45,14 @@ spawn_says k c b path text word g p t = by_test (not (is_ended text)) (nat_lt 25
         let d = g.directory in
         let few = few_lines text [] in
         let short = t.few in
+        let n = g.names in
+        let v = g.values in
         record {
           directory = d;
           arguments = each_more AreBytes (last_part [] at) (arguments_of text) (last_bytes at [] no_bytes a) (lines_bytes text [] no_bytes t.bytes);
           few = omega (arith, few, short);
+          names = n;
+          values = v;
         }
 
     starts : (slot program priority : ℕ) (at : List ℕ) → priority < 256 → AreBytes at → k.numbers + 1 < 2 ^ 32 → Says (spawned k c slot program priority (last_part [] at ∷ arguments_of text))
@@ -61,6 +65,8 @@ spawn_says k c b path text word g p t = by_test (not (is_ended text)) (nat_lt 25
         each_thread = new_thread k slot 0 priority b low;
         children = b.children;
         rest = b.rest;
+        each_queue = b.each_queue;
+        each_sent = b.each_sent;
       };
       told = one_told (reply c.thread.number (k.numbers + 1) []) (told_reply c.thread.number (k.numbers + 1) [] lt (each_none AreBytes));
     }
@@ -126,7 +132,7 @@ waitpid_says k c b pid option =
     (by_code (wait.Child pid) (has_child k.groups k.codes c.group.number pid) (find (is_code c.group.number pid) k.codes) (λ code e. let f = first_found (is_code c.group.number pid) k.codes code e in b.children f.place code f.at)))
   where
     waiting : (for : Wait) → Says (wait_for k c for option)
-    waiting for = either (option == 1) _ _ (nothing_read k c b) (blocks k c for b)
+    waiting for = either (option == 1) _ _ (nothing_read k c b) (blocks k c for None b)
 
     by_code : (for : Wait) (there : Bool) (code : Option Code) → ((d : Code) → code ≡ Some d → IsCodeOfWord d) → Says (wait_child k c for option there code)
     by_code for there (Some code) h =
@@ -205,7 +211,7 @@ join_says k c b thread = by_value (find (is_value c.group.number thread) k.value
   where
     by_thread : (t : Option Thread) → Says (join_live k c t)
     by_thread None = fails k c errno.Einval b
-    by_thread (Some t) = either (may_join k c t) _ _ (blocks k c (wait.Thread t.number) b) (fails k c errno.Einval b)
+    by_thread (Some t) = either (may_join k c t) _ _ (blocks k c (wait.Thread t.number) None b) (fails k c errno.Einval b)
 
     by_value : (v : Option ThreadValue) → Says (join_value k c thread v)
     by_value None = by_thread (thread_of k.sched.threads thread)

@@ -34,7 +34,7 @@ waitpid_lawful k c x h pid option asked =
     (by_code (wait.Child pid) asked (has_child k.groups k.codes c.group.number pid) (find (is_code c.group.number pid) k.codes)))
   where
     waiting : (for : Wait) → Agrees (Some for) c.asked → Lawful k c x (wait_for k c for option)
-    waiting for a = either k c x (option == 1) _ _ (answers k c x h k 0 ([] ∷ []) (record { sound = λ s. s; table = refl; slots = refl }) (nothing_fits c.asked)) (blocks k c x h for a)
+    waiting for a = either k c x (option == 1) _ _ (answers k c x h k 0 ([] ∷ []) (record { sound = λ s. s; table = refl; slots = refl }) (nothing_fits c.asked)) (blocks k c x h for None a)
 
     by_code : (for : Wait) → Agrees (Some for) c.asked → (there : Bool) (code : Option Code) → Lawful k c x (wait_child k c for option there code)
     by_code for a there (Some code) =
@@ -110,7 +110,7 @@ join_lawful k c x h thread asked = by_value (find (is_value c.group.number threa
   where
     by_thread : (t : Option Thread) → Lawful k c x (join_live k c t)
     by_thread None = fails k c x h errno.Einval
-    by_thread (Some t) = either k c x (may_join k c t) _ _ (blocks k c x h (wait.Thread t.number) asked) (fails k c x h errno.Einval)
+    by_thread (Some t) = either k c x (may_join k c t) _ _ (blocks k c x h (wait.Thread t.number) None asked) (fails k c x h errno.Einval)
 
     by_value : (v : Option ThreadValue) → Lawful k c x (join_value k c thread v)
     by_value None = by_thread (thread_of k.sched.threads thread)

@@ -24,7 +24,7 @@ use Rattle.nx_ksys.proofs.FileBytes.{swept_bytes}
 
 -- ---- paths
 
-entries_kept : (k : KernelState) (path : List ℕ) → IsOfBytes k → IsOfBytes (with_entries k (entries_but path k.tree.entries))
+pub entries_kept : (k : KernelState) (path : List ℕ) → IsOfBytes k → IsOfBytes (with_entries k (entries_but path k.tree.entries))
 entries_kept k path b = with_tree_bytes k (record k.tree { entries = entries_but path k.tree.entries }) b (each_kept (λ e. AreBytes e.0) (λ e. not (bytes_eq path e.0)) k.tree.entries b.paths) b.contents
 
 pub unlink_says : (k : KernelState) (c : Caller) (b : IsOfBytes k) (text : List ℕ) → AreBytes c.group.directory → AreBytes text → Says (unlink_row k c text)
@@ -109,7 +109,7 @@ chdir_says k c b text g t = by_path (resolve k c text) refl
   where
     moved : (path : List ℕ) → AreBytes path → IsOfBytes (with_group k c.place (record c.group { directory = path }))
     moved path p = with_groups_bytes k (slice_set k.groups c.place (Some (record c.group { directory = path }))) b
-        (standing_set IsGroupOfBytes k.groups c.place (record c.group { directory = path }) (let a = g.arguments in let f = g.few in record { directory = p; arguments = a; few = f }) b.each_group)
+        (standing_set IsGroupOfBytes k.groups c.place (record c.group { directory = path }) (let a = g.arguments in let f = g.few in let n = g.names in let v = g.values in record { directory = p; arguments = a; few = f; names = n; values = v }) b.each_group)
 
     by_node : (path : List ℕ) → AreBytes path → (n : Option Node) → Says (chdir_node k c path n)
     by_node path p None = fails k c errno.Enoent b

@@ -1,10 +1,10 @@
 -- Threads that go on: each was waiting, in a call that its reply fits, and is ready after.
-use Rattle.std.proofs.Common.{◌≡◌, ℕ, zero, suc, ◌≤◌, Bool, true, false, List, [], ◌∷◌, ◌++◌, length, Option, Some, None, refl, sym, ap, ◌∙◌, subst, arith}
+use Rattle.std.proofs.Common.{◌≡◌, ℕ, zero, suc, ◌≤◌, inl, inr, Bool, true, false, List, [], ◌∷◌, ◌++◌, length, min, Option, Some, None, refl, sym, ap, ◌∙◌, subst, arith}
 use mathlib.Core.Path.{fun_ext}
 use Rattle.std.specs.Prelude.{ℤ, nat_le, if◌then◌else◌}
 use Rattle.std.proofs.lemmas.Bool.{and_parts}
 use Rattle.nx_base.specs.Calls.{Reply}
-use Rattle.nx_base.specs.Replies.{FitsCall, HaveRoom, output_rooms}
+use Rattle.nx_base.specs.Replies.{FitsCall, HaveRoom, output_rooms, most_moved}
 use Rattle.nx_base.specs.KernelCalls.{kinds_of}
 use Rattle.nx_base.specs.declared.calls.KCall.TheVariants as call
 use Rattle.nx_base.specs.declared.errno.Errno.{Errno}
@@ -20,15 +20,16 @@ use Rattle.nx_ksys.specs.declared.thread.Search.{Search}
 use Rattle.nx_ksys.specs.declared.thread.Search.TheVariants as search
 use Rattle.nx_base.specs.ErrorNumbers.{number_of}
 use Rattle.nx_ksys.specs.Telling.{both, reply, failure}
-use Rattle.nx_ksys.specs.Threads.{Schedule, thread_of, changed, change_thread, awaited, deadline_of, is_ready, is_timed, is_sought, comes_before, precedes, best_from, is_for_child, is_for_thread, first_of, wake, with_error, Woken, none_woken, woken_then, woken_with, woken_failing}
+use Rattle.nx_ksys.specs.Threads.{Schedule, thread_of, changed, change_thread, awaited, deadline_of, is_ready, is_timed, is_sought, comes_before, precedes, best_from, is_for_child, is_for_thread, is_for_message, first_of, wake, with_error, Woken, none_woken, woken_then, woken_with, woken_failing}
 use Rattle.nx_ksys.specs.State.{Group, Code, KernelState}
-use Rattle.nx_ksys.specs.Answers.{int_out}
+use Rattle.nx_ksys.specs.Answers.{int_out, word_at}
+use Rattle.nx_ksys.specs.QueueCalls.{room_of}
 use Rattle.nx_ksys.specs.Ends.{is_lost_wait, is_lost, first_lost, refuse_first, refuse_lost}
 use Rattle.nx_ksys.specs.Picking.{timed_out, if_due, first_due, wake_first, wake_due}
 use Rattle.nx_ksys.specs.ThreadTable.{WaitingCall, ThreadRow, waits_in, threads}
-use Rattle.nx_ksys.specs.Soundness.{Stands, IsAsked, Agrees, AreSound}
+use Rattle.nx_ksys.specs.Soundness.{Stands, IsAsked, IsReceiving, Agrees, AreSound}
 use Rattle.nx_ksys.specs.TableLaws.{Table, set_at, waiting, ready, made_ready, after_replies, kinds_in, AreDue}
-use Rattle.nx_ksys.proofs.Standing.{none_some, best_has, length_map}
+use Rattle.nx_ksys.proofs.Standing.{none_some, off_on, best_has, length_map}
 use Rattle.nx_ksys.proofs.Tables.{set_at_same, replies_keep, row_of, row_in, table_of, thread_only, table_kept, table_changed, sound_changed}
 
 -- ---- replies in their turn
@@ -105,6 +106,26 @@ fits_join a n asked = subst (λ o. FitsCall (kinds_in o) a.words (int_out n ∷ 
     by_words [] le = absurd (omega (arith, le))
     by_words (a ∷ []) le = absurd (omega (arith, le))
     by_words (a ∷ b ∷ words) le = (let e = length-to_le 4 n in omega (arith, e), (refl, tt))
+
+-- a message of the size that a receive has room for, and its priority
+pub fits_receive : (a : Asked) (bytes : List ℕ) (n : ℕ) → IsReceiving a → length bytes ≤ room_of a → FitsCall (kinds_in a.call) a.words (bytes ∷ int_out n ∷ [])
+fits_receive a bytes n (inl asked) short = subst (λ o. FitsCall (kinds_in o) a.words (bytes ∷ int_out n ∷ [])) (sym asked.call) (by_words a.words asked.words short)
+  where
+    by_words : (words : List ℕ) → 4 ≤ length words → length bytes ≤ min (word_at words 2) most_moved → FitsCall (kinds_of call.MqReceive) words (bytes ∷ int_out n ∷ [])
+    by_words [] le s = absurd (omega (arith, le))
+    by_words (a ∷ []) le s = absurd (omega (arith, le))
+    by_words (a ∷ b ∷ []) le s = absurd (omega (arith, le))
+    by_words (a ∷ b ∷ c ∷ []) le s = absurd (omega (arith, le))
+    by_words (a ∷ b ∷ c ∷ d ∷ words) le s = (s, (let e = length-to_le 4 n in omega (arith, e), tt))
+fits_receive a bytes n (inr asked) short = subst (λ o. FitsCall (kinds_in o) a.words (bytes ∷ int_out n ∷ [])) (sym asked.call) (by_words a.words asked.words short)
+  where
+    by_words : (words : List ℕ) → 5 ≤ length words → length bytes ≤ min (word_at words 2) most_moved → FitsCall (kinds_of call.NxMqTimedreceive) words (bytes ∷ int_out n ∷ [])
+    by_words [] le s = absurd (omega (arith, le))
+    by_words (a ∷ []) le s = absurd (omega (arith, le))
+    by_words (a ∷ b ∷ []) le s = absurd (omega (arith, le))
+    by_words (a ∷ b ∷ c ∷ []) le s = absurd (omega (arith, le))
+    by_words (a ∷ b ∷ c ∷ d ∷ []) le s = absurd (omega (arith, le))
+    by_words (a ∷ b ∷ c ∷ d ∷ e ∷ words) le s = (s, (let q = length-to_le 4 n in omega (arith, q), tt))
 
 -- ---- what going on owes
 
@@ -218,6 +239,12 @@ thread_waits number (Ready since) e = absurd cc
 thread_waits number (Waits for since) e = refl
 thread_waits number (Until for since deadline) e = refl
 
+-- who waits for anything isn't ready
+pub awaited_waits : (test : Option Wait → Bool) → test None ≡ false → (d : Doing) → test (awaited d) ≡ true → is_ready d ≡ false
+awaited_waits test none (Ready since) e = absurd (off_on (test None) none e)
+awaited_waits test none (Waits for since) e = refl
+awaited_waits test none (Until for since deadline) e = refl
+
 timed_waits : (d : Doing) → is_timed d ≡ true → is_ready d ≡ false
 timed_waits (Ready since) e = absurd cc
 timed_waits (Waits for since) e = absurd cc
@@ -242,6 +269,16 @@ thread_asked number (Some (wait.Semaphore place)) a e q = absurd cc
 thread_asked number (Some (wait.Child child)) a e q = absurd cc
 thread_asked number (Some wait.AnyChild) a e q = absurd cc
 thread_asked number (Some (wait.Thread thread)) a e q = q
+
+pub message_asked : (place : ℕ) (w : Option Wait) (a : Asked) → is_for_message place w ≡ true → Agrees w a → IsReceiving a
+message_asked place None a e q = absurd cc
+message_asked place (Some wait.Sleep) a e q = absurd cc
+message_asked place (Some (wait.Receive queue)) a e q = q
+message_asked place (Some (wait.Send queue)) a e q = absurd cc
+message_asked place (Some (wait.Semaphore semaphore)) a e q = absurd cc
+message_asked place (Some (wait.Child child)) a e q = absurd cc
+message_asked place (Some wait.AnyChild) a e q = absurd cc
+message_asked place (Some (wait.Thread thread)) a e q = absurd cc
 
 -- ---- those that wait for no child any more, and those whose deadline has come
 

@@ -9,7 +9,7 @@ use Rattle.nx_base.specs.declared.errno.Errno.TheVariants.{Einval}
 use Rattle.nx_ksys.specs.declared.thread.Asked.{Asked}
 use Rattle.nx_ksys.specs.declared.thread.Thread.{Thread}
 use Rattle.nx_ksys.specs.declared.thread.Wait.{Wait}
-use Rattle.nx_ksys.specs.Threads.{flat, with_error, block}
+use Rattle.nx_ksys.specs.Threads.{flat, with_error, block, Woken}
 use Rattle.nx_ksys.specs.Telling.{reply, failure}
 use Rattle.nx_ksys.specs.State.{Group, KernelState}
 
@@ -62,6 +62,10 @@ with_errno k thread e = record k { sched = with_error k.sched thread e }
 -- the call succeeds with a value and outputs
 abbrev pub replied : KernelState → Caller → ℕ → List (List ℕ) → Stepped
 replied k c value outputs = record { to = k; effect = Stays; replies = reply c.thread.number value outputs ∷ [] }
+
+-- the call succeeds, and then others go on
+abbrev pub replied_then : KernelState → Caller → ℕ → List (List ℕ) → Woken → Stepped
+replied_then k c value outputs w = record { to = record k { sched = w.sched }; effect = Stays; replies = reply c.thread.number value outputs ∷ w.replies }
 
 -- the call fails, and nothing but the caller's error number changes
 abbrev pub failed : KernelState → Caller → Errno → Stepped

@@ -7,7 +7,7 @@ use Rattle.nx_base.specs.Replies.{most_moved}
 use Rattle.nx_base.specs.declared.calls.KCall.{KCall}
 use Rattle.nx_base.specs.declared.calls.Kind.{Kind}
 use Rattle.nx_ksys.specs.declared.thread.Thread.{Thread}
-use Rattle.nx_ksys.specs.State.{FileTree, Group, Code, Limits, KernelState}
+use Rattle.nx_ksys.specs.State.{FileTree, Message, Queue, Group, Code, Limits, KernelState}
 use Rattle.nx_ksys.specs.Step.{step}
 use Rattle.nx_ksys.specs.Picking.{picked}
 use Rattle.nx_ksys.specs.Boot.{booted}
@@ -26,6 +26,8 @@ pub record IsGroupOfBytes (g : Group) : Type 0 where
   pub directory : AreBytes g.directory
   pub arguments : Each AreBytes g.arguments
   pub few : length g.arguments < 2 ^ 32
+  pub names : Each (λ v. AreBytes v.0) g.environment
+  pub values : Each (λ v. AreBytes v.1) g.environment
 
 -- a thread's priority is a byte, and its error number a word
 pub record IsThreadOfBytes (t : Thread) : Type 0 where
@@ -35,8 +37,14 @@ pub record IsThreadOfBytes (t : Thread) : Type 0 where
 abbrev pub IsCodeOfWord : Code → Type 0
 IsCodeOfWord c = c.child < 2 ^ 32
 
+abbrev pub IsMessageOfBytes : Message → Type 0
+IsMessageOfBytes m = AreBytes m.bytes
+
+abbrev pub IsQueueOfBytes : Queue → Type 0
+IsQueueOfBytes q = Each IsMessageOfBytes q.messages
+
 -- all that a call may hand out
-pub record AreOfBytes (limits : Limits) (tree : FileTree) (groups : List (Option Group)) (threads : List (Option Thread)) (codes : List Code) (input : List ℕ) : Type 0 where
+pub record AreOfBytes (limits : Limits) (tree : FileTree) (groups : List (Option Group)) (threads : List (Option Thread)) (codes : List Code) (input : List ℕ) (queues : List (Option Queue)) (sending : List (Option Message)) : Type 0 where
   pub names : Each AreBytes limits.programs
   pub paths : Each (λ e. AreBytes e.0) tree.entries
   pub contents : EachStanding AreBytes tree.files
@@ -44,9 +52,11 @@ pub record AreOfBytes (limits : Limits) (tree : FileTree) (groups : List (Option
   pub each_thread : EachStanding IsThreadOfBytes threads
   pub children : Each IsCodeOfWord codes
   pub rest : AreBytes input
+  pub each_queue : EachStanding IsQueueOfBytes queues
+  pub each_sent : EachStanding IsMessageOfBytes sending
 
 abbrev pub IsOfBytes : KernelState → Type 0
-IsOfBytes k = AreOfBytes k.limits k.tree k.groups k.sched.threads k.codes k.input
+IsOfBytes k = AreOfBytes k.limits k.tree k.groups k.sched.threads k.codes k.input k.queues k.sending
 
 -- an input of a call: at most so many bytes as a call moves
 pub record IsInput (input : List ℕ) : Type 0 where

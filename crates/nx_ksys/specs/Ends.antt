@@ -9,7 +9,7 @@ use Rattle.nx_ksys.specs.declared.thread.Thread.{Thread}
 use Rattle.nx_ksys.specs.declared.thread.Search.TheVariants as search
 use Rattle.nx_ksys.specs.Threads.{Schedule, flat, awaited, comes_before, best_from, first_of, Woken, none_woken, woken_then, woken_with, woken_failing}
 use Rattle.nx_ksys.specs.State.{Group, Message, Code, ThreadValue, Ending, KernelState}
-use Rattle.nx_ksys.specs.Descriptors.{per_group, closed_from}
+use Rattle.nx_ksys.specs.Descriptors.{per_group, closed_from, without_idle}
 use Rattle.nx_ksys.specs.Answers.{Stays, EndsGroup, Stepped, Caller, int_out, with_threads}
 
 -- ---- children, and who waits for them
@@ -88,12 +88,13 @@ kept_messages group [] ms = ms
 kept_messages group (t ∷ ts) [] = []
 kept_messages group (t ∷ ts) (m ∷ ms) = kept_message group t m ∷ kept_messages group ts ms
 
--- its threads vanish, with the messages that they wait to send, and the values that nobody took
+-- its threads vanish, with the messages that they wait to send, the values that nobody took, and the queues and
+-- semaphores that lived by their waits alone
 unfoldable pub vanished : ℕ → KernelState → KernelState
-vanished group k = record (with_threads k (map (without_group group) k.sched.threads)) {
+vanished group k = without_idle (record (with_threads k (map (without_group group) k.sched.threads)) {
   sending = kept_messages group k.sched.threads k.sending;
   values = filter (λ v. not (v.group == group)) k.values;
-}
+})
 
 -- its descriptors close, from 0 up
 unfoldable pub without_descriptors : ℕ → KernelState → KernelState

@@ -9,6 +9,10 @@ pub mod TreeCalls
 pub mod Ends
 pub mod GroupCalls
 pub mod ThreadCalls
+pub mod QueueCalls
+pub mod SemaphoreCalls
+pub mod TimeCalls
+pub mod EnvironmentCalls
 pub mod Step
 pub mod Picking
 pub mod ThreadTable

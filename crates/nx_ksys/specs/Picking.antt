@@ -12,6 +12,7 @@ use Rattle.nx_ksys.specs.declared.pick.Pick.{Pick}
 use Rattle.nx_ksys.specs.declared.pick.Pick.TheVariants.{Run, Idle, Ended}
 use Rattle.nx_ksys.specs.Threads.{Schedule, awaited, deadline_of, first_of, Woken, none_woken, woken_then, woken_with, woken_failing}
 use Rattle.nx_ksys.specs.State.{KernelState}
+use Rattle.nx_ksys.specs.Descriptors.{without_idle}
 use Rattle.nx_ksys.specs.Ends.{WithReplies, told_by}
 
 -- a sleeping thread goes on; the wait of any other that has a deadline fails
@@ -40,9 +41,11 @@ abbrev pub next_late : List ℕ → ℕ
 next_late [] = 0
 next_late (n ∷ ns) = n
 
--- time becomes a deadline and the next lateness
+-- time becomes a deadline and the next lateness. A queue that lived by a wait alone ends with it
 abbrev pub passed_to : KernelState → ℕ → WithReplies
-passed_to k time = told_by (record k { time = time; late = drop 1 k.late }) (wake_due time (length k.sched.threads) k.sched)
+passed_to k time =
+    let told = told_by (record k { time = time; late = drop 1 k.late }) (wake_due time (length k.sched.threads) k.sched) in
+    record { to = without_idle told.to; replies = told.replies }
 
 abbrev pub passed : KernelState → Option Thread → WithReplies
 passed k None = record { to = k; replies = [] }

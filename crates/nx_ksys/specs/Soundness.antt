@@ -1,5 +1,5 @@
 -- What holds of the threads and groups of each state of the kernel that is reached.
-use Rattle.std.specs.Prelude.{◌≡◌, ℕ, ◌≤◌, List, length, Option, Some, slice_get}
+use Rattle.std.specs.Prelude.{◌≡◌, ◌⊎◌, ℕ, ◌≤◌, List, length, Option, Some, slice_get}
 use Rattle.nx_base.specs.KernelCalls.{kinds_of}
 use Rattle.nx_base.specs.declared.calls.KCall.{KCall}
 use Rattle.nx_base.specs.declared.calls.KCall.TheVariants as call
@@ -20,8 +20,13 @@ pub record IsAsked (which : KCall) (a : Asked) : Type 0 where
   pub call : a.call ≡ Some which
   pub words : length (kinds_of which) ≤ length a.words
 
+-- a message was asked for, perhaps up to a deadline
+abbrev pub IsReceiving : Asked → Type 0
+IsReceiving a = IsAsked call.MqReceive a ⊎ IsAsked call.NxMqTimedreceive a
+
 -- what a thread waits for agrees with the call that it keeps
 abbrev pub Agrees : Option Wait → Asked → Type 0
+Agrees (Some (wait.Receive queue)) a = IsReceiving a
 Agrees (Some (wait.Child child)) a = IsAsked call.Waitpid a
 Agrees (Some wait.AnyChild) a = IsAsked call.Waitpid a
 Agrees (Some (wait.Thread thread)) a = IsAsked call.NxJoin a

@@ -16,6 +16,10 @@ use Rattle.nx_ksys.specs.TreeCalls.{unlink_row, mkdir_row, rmdir_row, rename_row
 use Rattle.nx_ksys.specs.Ends.{exit_row, thread_exit_row}
 use Rattle.nx_ksys.specs.GroupCalls.{spawn_row, waitpid_row, arg_row, ps_row}
 use Rattle.nx_ksys.specs.ThreadCalls.{setpriority_row, yield_row, thread_row, join_row, errno_row}
+use Rattle.nx_ksys.specs.QueueCalls.{mq_open_row, mq_close_row, mq_unlink_row, mq_send_row, mq_receive_row, mq_timedreceive_row}
+use Rattle.nx_ksys.specs.SemaphoreCalls.{sem_open_row, sem_wait_row, sem_trywait_row, sem_post_row, sem_close_row}
+use Rattle.nx_ksys.specs.TimeCalls.{sleep_row, ticks_row}
+use Rattle.nx_ksys.specs.EnvironmentCalls.{getenv_row, setenv_row, unsetenv_row, env_row}
 
 -- a call of the kernel with its words and inputs. Words that are pointers mean nothing here, and no row asks for them
 abbrev pub row_of : KCall → KernelState → Caller → List ℕ → List (List ℕ) → Stepped
@@ -46,29 +50,24 @@ row_of call.NxPs k c words inputs = ps_row k c (word_at words 0) (word_at words 
 row_of call.NxThread k c words inputs = thread_row k c
 row_of call.NxThreadExit k c words inputs = thread_exit_row k c (word_at words 0)
 row_of call.NxJoin k c words inputs = join_row k c (word_at words 0)
+row_of call.NxMqOpen k c words inputs = mq_open_row k c (input_at inputs 0) (word_at words 1) (word_at words 2) (word_at words 3)
+row_of call.MqClose k c words inputs = mq_close_row k c (word_at words 0)
+row_of call.MqUnlink k c words inputs = mq_unlink_row k c (input_at inputs 0)
+row_of call.MqSend k c words inputs = mq_send_row k c (word_at words 0) (input_at inputs 0) (word_at words 2) (word_at words 3)
+row_of call.MqReceive k c words inputs = mq_receive_row k c (word_at words 0) (word_at words 2)
+row_of call.NxMqTimedreceive k c words inputs = mq_timedreceive_row k c (word_at words 0) (word_at words 2) (word_at words 4)
+row_of call.NxSemOpen k c words inputs = sem_open_row k c (input_at inputs 0) (word_at words 1) (word_at words 2)
+row_of call.NxSemWait k c words inputs = sem_wait_row k c (word_at words 0)
+row_of call.NxSemTrywait k c words inputs = sem_trywait_row k c (word_at words 0)
+row_of call.NxSemPost k c words inputs = sem_post_row k c (word_at words 0)
+row_of call.NxSemClose k c words inputs = sem_close_row k c (word_at words 0)
+row_of call.NxSleep k c words inputs = sleep_row k c (word_at words 0)
+row_of call.NxTicks k c words inputs = ticks_row k c
+row_of call.NxGetenv k c words inputs = getenv_row k c (input_at inputs 0) (word_at words 2)
+row_of call.Setenv k c words inputs = setenv_row k c (input_at inputs 0) (input_at inputs 1) (word_at words 2)
+row_of call.Unsetenv k c words inputs = unsetenv_row k c (input_at inputs 0)
+row_of call.NxEnv k c words inputs = env_row k c (word_at words 0) (word_at words 2)
 row_of call.GetErrno k c words inputs = errno_row k c
-row_of other k c words inputs = failed k c Enosys
-
--- the calls that these rows are about; the others come with queues, semaphores, time and the environment
-abbrev pub IsBuilt : KCall → Type 0
-IsBuilt call.NxMqOpen = ⊥
-IsBuilt call.MqClose = ⊥
-IsBuilt call.MqUnlink = ⊥
-IsBuilt call.MqSend = ⊥
-IsBuilt call.MqReceive = ⊥
-IsBuilt call.NxMqTimedreceive = ⊥
-IsBuilt call.NxSemOpen = ⊥
-IsBuilt call.NxSemWait = ⊥
-IsBuilt call.NxSemTrywait = ⊥
-IsBuilt call.NxSemPost = ⊥
-IsBuilt call.NxSemClose = ⊥
-IsBuilt call.NxSleep = ⊥
-IsBuilt call.NxTicks = ⊥
-IsBuilt call.NxGetenv = ⊥
-IsBuilt call.Setenv = ⊥
-IsBuilt call.Unsetenv = ⊥
-IsBuilt call.NxEnv = ⊥
-IsBuilt other = Unit {0}
 
 -- a call that the kernel hasn't is refused
 abbrev pub asked : Option KCall → KernelState → Caller → List ℕ → List (List ℕ) → Stepped
