@@ -1,5 +1,5 @@
 -- What changes of the tree do to the bounds of its paths.
-use Rattle.std.proofs.Common.{◌≡◌, ◌≢◌, ℕ, zero, suc, ◌+◌, ◌≤◌, ◌==◌, ◌||◌, ◌&&◌, Bool, true, false, cond, not, List, [], ◌∷◌, ◌++◌, length, Option, Some, None, refl, sym, ap, subst, arith, ⊎_elim}
+use Rattle.std.proofs.Common.{◌≡◌, ◌≢◌, ℕ, zero, suc, ◌+◌, ◌≤◌, ◌||◌, ◌&&◌, Bool, true, false, cond, not, List, [], ◌∷◌, ◌++◌, length, Option, Some, None, refl, sym, ap, ◌∙◌, subst, arith, ⊎_elim}
 use Rattle.std.specs.Prelude.{if◌then◌else◌, slice_get, slice_set}
 use Rattle.std.specs.List.{list_any, count_by, position_from}
 use Rattle.std.specs.Option.{is_some, is_none}
@@ -11,9 +11,9 @@ use Rattle.nx_ksys.specs.declared.node.NodeKind.{NodeKind}
 use Rattle.nx_ksys.specs.declared.node.NodeKind.TheVariants as node
 use Rattle.nx_ksys.specs.declared.node.Open.{Open}
 use Rattle.nx_ksys.specs.Threads.{flat}
-use Rattle.nx_ksys.specs.State.{FileTree, Queue, is_directory, is_made_directory}
+use Rattle.nx_ksys.specs.State.{FileTree, Queue, KernelState, is_directory, is_made_directory}
 use Rattle.nx_ksys.specs.Paths.{entries_but}
-use Rattle.nx_ksys.specs.Descriptors.{is_at, is_file_at, is_open_file, lives, swept}
+use Rattle.nx_ksys.specs.Descriptors.{is_at, is_file_at, is_open_file, lives, swept, is_queue_at, is_open_queue, awaits_queue, queue_lives, kept_if, living_from}
 use Rattle.nx_ksys.specs.TreeCalls.{made_directory, renamed_entries}
 use Rattle.nx_ksys.specs.Boot.{program_nodes}
 use Rattle.nx_ksys.specs.Bounds.{file_place, queue_place, is_no_object, one_if, lasting, leading, stands, AreBounded, PathsAreFew}
@@ -102,74 +102,131 @@ made_bounded first tree queues path h = record {
   queue = λ q. (let a = h.queue q in let b = leading_after queue_place q tree.entries ((path, made_directory) ∷ []) in omega (arith, a, b));
 }
 
-abbrev new_node : ℕ → Node
-new_node place = record { kind = node.File place; fixed = false }
+-- a path to what is new at its place
+led_new : {A : Type 0} (sort : NodeKind → Option ℕ) (es : List (List ℕ × Node)) (xs : List (Option A)) (path : List ℕ) (n : Node) (place : ℕ) (x : A) → sort n.kind ≡ Some place → slice_get xs place ≡ Some None → ((q : ℕ) → leading sort q es ≤ one_if (stands xs q))
+    → (q : ℕ) → leading sort q (es ++ (path, n) ∷ []) ≤ one_if (stands (slice_set xs place (Some x)) q)
+led_new {A} sort es xs path n place x leads at h q = ⊎_elim (here q) (elsewhere q) (cases_eq q place)
+  where
+    here : (q : ℕ) → q ≡ place → leading sort q (es ++ (path, n) ∷ []) ≤ one_if (stands (slice_set xs place (Some x)) q)
+    here q s = subst (λ r. leading sort r (es ++ (path, n) ∷ []) ≤ one_if (stands (slice_set xs place (Some x)) r)) (sym s)
+        (let a = h place in
+        let z = ap one_if (free_stands xs place at) in
+        let t = ap one_if (new_stands xs place x at) in
+        let o = ap (λ k. one_if (is_at place k)) leads in
+        let p = ap one_if (eq_to place place refl) in
+        let b = leading_after sort place es ((path, n) ∷ []) in
+        omega (arith, a, z, t, o, p, b))
+
+    elsewhere : (q : ℕ) → q ≢ place → leading sort q (es ++ (path, n) ∷ []) ≤ one_if (stands (slice_set xs place (Some x)) q)
+    elsewhere q ne =
+        let a = h q in
+        let t = ap one_if (other_stands xs place q (Some x) ne) in
+        let o = ap (λ k. one_if (is_at q k)) leads in
+        let p = ap one_if (ne_to place q (λ s. ne (sym s))) in
+        let b = leading_after sort q es ((path, n) ∷ []) in
+        omega (arith, a, t, o, p, b)
+
+-- what no path leads to is gone
+led_gone : {A : Type 0} (sort : NodeKind → Option ℕ) (es : List (List ℕ × Node)) (xs : List (Option A)) (place : ℕ) → leading sort place es ≡ 0 → ((q : ℕ) → leading sort q es ≤ one_if (stands xs q)) → (q : ℕ) → leading sort q es ≤ one_if (stands (slice_set xs place None) q)
+led_gone {A} sort es xs place none h q = ⊎_elim
+    (λ s. let n = subst (λ r. leading sort r es ≡ 0) (sym s) none in omega (arith, n))
+    (λ ne. let a = h q in let n = ap one_if (other_stands xs place q None ne) in omega (arith, a, n))
+    (cases_eq q place)
+
+abbrev new_file_node : ℕ → Node
+new_file_node place = record { kind = node.File place; fixed = false }
 
 pub new_bounded : (first : ℕ) (tree : FileTree) (queues : List (Option Queue)) (path : List ℕ) (place : ℕ) → position_from is_none 0 tree.files ≡ Some place → AreBounded first tree queues
     → AreBounded first (record { entries = tree.entries ++ (path, record { kind = node.File place; fixed = false }) ∷ []; files = slice_set tree.files place (Some []) }) queues
 new_bounded first tree queues path place e h = record {
-  few = (let a = h.few in let b = lasting_after tree.entries ((path, new_node place) ∷ []) in omega (arith, a, b));
-  file = λ q. ⊎_elim (here q) (elsewhere q) (cases_eq q place);
-  queue = λ q. (let a = h.queue q in let b = leading_after queue_place q tree.entries ((path, new_node place) ∷ []) in omega (arith, a, b));
+  few = (let a = h.few in let b = lasting_after tree.entries ((path, new_file_node place) ∷ []) in omega (arith, a, b));
+  file = led_new file_place tree.entries tree.files path (new_file_node place) place [] refl (free_place tree.files place e) h.file;
+  queue = λ q. (let a = h.queue q in let b = leading_after queue_place q tree.entries ((path, new_file_node place) ∷ []) in omega (arith, a, b));
 }
-  where
-    at : slice_get tree.files place ≡ Some None
-    at = free_place tree.files place e
 
-    here : (q : ℕ) → q ≡ place → leading file_place q (tree.entries ++ (path, new_node place) ∷ []) ≤ one_if (stands (slice_set tree.files place (Some [])) q)
-    here q s = subst (λ r. leading file_place r (tree.entries ++ (path, new_node place) ∷ []) ≤ one_if (stands (slice_set tree.files place (Some [])) r)) (sym s)
-        (let a = h.file place in
-        let z = ap one_if (free_stands tree.files place at) in
-        let n = ap one_if (new_stands tree.files place [] at) in
-        let o = ap one_if (eq_to place place refl) in
-        let b = leading_after file_place place tree.entries ((path, new_node place) ∷ []) in
-        omega (arith, a, z, n, o, b))
+abbrev new_queue_node : ℕ → Node
+new_queue_node place = record { kind = node.Queue place; fixed = false }
 
-    elsewhere : (q : ℕ) → q ≢ place → leading file_place q (tree.entries ++ (path, new_node place) ∷ []) ≤ one_if (stands (slice_set tree.files place (Some [])) q)
-    elsewhere q ne =
-        let a = h.file q in
-        let n = ap one_if (other_stands tree.files place q (Some []) ne) in
-        let o = ap one_if (ne_to place q (λ s. ne (sym s))) in
-        let b = leading_after file_place q tree.entries ((path, new_node place) ∷ []) in
-        omega (arith, a, n, o, b)
+pub new_queue_bounded : (first : ℕ) (tree : FileTree) (queues : List (Option Queue)) (path : List ℕ) (place : ℕ) (new : Queue) → position_from is_none 0 queues ≡ Some place → AreBounded first tree queues
+    → AreBounded first (record tree { entries = tree.entries ++ (path, record { kind = node.Queue place; fixed = false }) ∷ [] }) (slice_set queues place (Some new))
+new_queue_bounded first tree queues path place new e h = record {
+  few = (let a = h.few in let b = lasting_after tree.entries ((path, new_queue_node place) ∷ []) in omega (arith, a, b));
+  file = λ q. (let a = h.file q in let b = leading_after file_place q tree.entries ((path, new_queue_node place) ∷ []) in omega (arith, a, b));
+  queue = led_new queue_place tree.entries queues path (new_queue_node place) place new refl (free_place queues place e) h.queue;
+}
 
 or_left : (a b : Bool) → (a || b) ≡ false → a ≡ false
 or_left true b e = absurd cc
 or_left false b e = refl
 
--- a file that no path names
-unnamed : (place : ℕ) (es : List (List ℕ × Node)) → list_any (λ e. is_file_at place e.1.kind) es ≡ false → leading file_place place es ≡ 0
-unnamed place [] h = refl
-unnamed place (e ∷ es) h = by_kind e.1.kind h (unnamed place es)
-  where
-    none : leading file_place place es ≡ 0 → 0 + leading file_place place es ≡ 0
-    none z = omega (arith, z)
+or_right : (a b : Bool) → (a || b) ≡ false → b ≡ false
+or_right true b e = absurd cc
+or_right false b e = e
 
-    by_place : (b : Bool) → (b || list_any (λ f. is_file_at place f.1.kind) es) ≡ false → (list_any (λ f. is_file_at place f.1.kind) es ≡ false → leading file_place place es ≡ 0) → one_if b + leading file_place place es ≡ 0
-    by_place true k more = absurd cc
-    by_place false k more = none (more k)
+-- to what no path names none leads
+unnamed : (sort : NodeKind → Option ℕ) (place : ℕ) (names : NodeKind → Bool) → ((n : NodeKind) → names n ≡ is_at place (sort n)) → (es : List (List ℕ × Node)) → list_any (λ e. names e.1.kind) es ≡ false → leading sort place es ≡ 0
+unnamed sort place names same [] h = refl
+unnamed sort place names same (e ∷ es) h =
+    let rest = list_any (λ f. names f.1.kind) es in
+    let a = ap one_if (sym (same e.1.kind) ∙ or_left (names e.1.kind) rest h) in
+    let r = unnamed sort place names same es (or_right (names e.1.kind) rest h) in
+    omega (arith, a, r)
 
-    by_kind : (n : NodeKind) → (is_file_at place n || list_any (λ f. is_file_at place f.1.kind) es) ≡ false → (list_any (λ f. is_file_at place f.1.kind) es ≡ false → leading file_place place es ≡ 0) → one_if (is_at place (file_place n)) + leading file_place place es ≡ 0
-    by_kind node.Directory k more = none (more k)
-    by_kind (node.File p) k more = by_place (p == place) k more
-    by_kind node.Console k more = none (more k)
-    by_kind node.Null k more = none (more k)
-    by_kind (node.Program p) k more = none (more k)
-    by_kind (node.Queue p) k more = none (more k)
+names_file : (place : ℕ) (n : NodeKind) → is_file_at place n ≡ is_at place (file_place n)
+names_file place node.Directory = refl
+names_file place (node.File p) = refl
+names_file place node.Console = refl
+names_file place node.Null = refl
+names_file place (node.Program p) = refl
+names_file place (node.Queue p) = refl
+
+names_queue : (place : ℕ) (n : NodeKind) → is_queue_at place n ≡ is_at place (queue_place n)
+names_queue place node.Directory = refl
+names_queue place (node.File p) = refl
+names_queue place node.Console = refl
+names_queue place node.Null = refl
+names_queue place (node.Program p) = refl
+names_queue place (node.Queue p) = refl
 
 pub swept_bounded : (first : ℕ) (tree : FileTree) (queues : List (Option Queue)) (opens : List (Option Open)) (place : ℕ) → AreBounded first tree queues → AreBounded first (swept tree opens place) queues
 unfolding swept
 swept_bounded first tree queues opens place h = by_lives (lives place tree.entries opens) refl
   where
-    gone : lives place tree.entries opens ≡ false → (q : ℕ) → leading file_place q tree.entries ≤ one_if (stands (slice_set tree.files place None) q)
-    gone e q = ⊎_elim
-        (λ s. let n = subst (λ r. leading file_place r tree.entries ≡ 0) (sym s) (unnamed place tree.entries (or_left _ (list_any (is_open_file place) opens) e)) in omega (arith, n))
-        (λ ne. let a = h.file q in let n = ap one_if (other_stands tree.files place q None ne) in omega (arith, a, n))
-        (cases_eq q place)
+    none : lives place tree.entries opens ≡ false → leading file_place place tree.entries ≡ 0
+    none e = unnamed file_place place (is_file_at place) (names_file place) tree.entries (or_left _ (list_any (is_open_file place) opens) e)
 
     by_lives : (b : Bool) → lives place tree.entries opens ≡ b → AreBounded first (if b then tree else record tree { files = slice_set tree.files place None }) queues
     by_lives true e = h
-    by_lives false e = record { few = h.few; file = gone e; queue = h.queue }
+    by_lives false e = record { few = h.few; file = led_gone file_place tree.entries tree.files place (none e) h.file; queue = h.queue }
+
+-- ---- queues that change and end
+
+pub queue_bounded : (first : ℕ) (tree : FileTree) (queues : List (Option Queue)) (place : ℕ) (new : Queue) → AreBounded first tree queues → AreBounded first tree (slice_set queues place (Some new))
+queue_bounded first tree queues place new h = record {
+  few = h.few;
+  file = h.file;
+  queue = λ q. (let a = h.queue q in let b = still_stands queues place q new in omega (arith, a, b));
+}
+
+-- no path leads to a queue that lives no more
+pub unled_queue : (k : KernelState) (place : ℕ) → queue_lives k place ≡ false → leading queue_place place k.tree.entries ≡ 0
+unled_queue k place e = unnamed queue_place place (is_queue_at place) (names_queue place) k.tree.entries (or_left _ (list_any (is_open_queue place) k.opens) (or_left _ (list_any (awaits_queue place) k.sched.threads) e))
+
+pub kept_bounded : (first : ℕ) (tree : FileTree) (queues : List (Option Queue)) (place : ℕ) (lives : Bool) → (lives ≡ false → leading queue_place place tree.entries ≡ 0) → AreBounded first tree queues → AreBounded first tree (kept_if lives queues place)
+kept_bounded first tree queues place true none h = h
+kept_bounded first tree queues place false none h = record { few = h.few; file = h.file; queue = led_gone queue_place tree.entries queues place (none refl) h.queue }
+
+living_stands : {A : Type 0} (lives : ℕ → Bool) (b q : ℕ) (xs : List (Option A)) → lives (b + q) ≡ true → stands (living_from lives b xs) q ≡ stands xs q
+living_stands lives b q [] e = refl
+living_stands {A} lives b zero (x ∷ xs) e = ap (λ c. is_some (if c then x else None)) (ap lives (omega arith) ∙ e)
+living_stands {A} lives b (suc q) (x ∷ xs) e = living_stands lives (b + 1) q xs (ap lives (omega arith) ∙ e)
+
+pub living_bounded : (first : ℕ) (tree : FileTree) (queues : List (Option Queue)) (lives : ℕ → Bool) → ((place : ℕ) → lives place ≡ false → leading queue_place place tree.entries ≡ 0) → AreBounded first tree queues → AreBounded first tree (living_from lives 0 queues)
+living_bounded first tree queues lives none h = record { few = h.few; file = h.file; queue = λ q. by_lives q (lives q) refl }
+  where
+    by_lives : (q : ℕ) (b : Bool) → lives q ≡ b → leading queue_place q tree.entries ≤ one_if (stands (living_from lives 0 queues) q)
+    by_lives q true e = let a = h.queue q in let s = ap one_if (living_stands lives 0 q queues (ap lives (omega arith) ∙ e)) in omega (arith, a, s)
+    by_lives q false e = let n = none q e in omega (arith, n)
 
 -- ---- how many paths there are
 

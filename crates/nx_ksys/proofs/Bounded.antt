@@ -30,7 +30,9 @@ use Rattle.nx_ksys.specs.Picking.{Picked, passed, passed_if, advanced, picked_af
 use Rattle.nx_ksys.specs.Boot.{booted, first_entries}
 use Rattle.nx_ksys.specs.Bounds.{file_place, queue_place, BootIsBounded, CallsStayBounded, ChoicesStayBounded}
 use Rattle.nx_ksys.proofs.BoundLemmas.{swept_bounded, but_bounded, renamed_bounded, made_bounded, unled, lasting_few}
-use Rattle.nx_ksys.proofs.Bounding.{Bounds, Keeps, bounds_same, either, fails, texts, all_closed_keeps, write_bounds, read_bounds, open_bounds, close_bounds, lseek_bounds, dup_bounds, dup2_bounds}
+use Rattle.nx_ksys.proofs.EnvironmentBounds.{sleep_bounds, ticks_bounds, getenv_bounds, setenv_bounds, unsetenv_bounds, env_bounds}
+use Rattle.nx_ksys.proofs.QueueBounds.{sem_open_bounds, sem_wait_bounds, sem_trywait_bounds, sem_post_bounds, sem_close_bounds, mq_open_bounds, mq_close_bounds, mq_unlink_bounds, mq_send_bounds, mq_receive_bounds, mq_timedreceive_bounds}
+use Rattle.nx_ksys.proofs.Bounding.{Bounds, Keeps, bounds_same, either, fails, texts, idle_keeps, all_closed_keeps, write_bounds, read_bounds, open_bounds, close_bounds, lseek_bounds, dup_bounds, dup2_bounds}
 
 -- ---- paths
 
@@ -161,17 +163,21 @@ parent_keeps code k = by_parent (code.parent == 0) (first_of (search.Parent code
     by_parent true t = record { kept = λ first h. h }
     by_parent false t = let h = handed t in record { kept = h.kept }
 
+vanished_keeps : (group : ℕ) (k : KernelState) → Keeps k (vanished group k)
+unfolding vanished
+vanished_keeps group k = record { kept = (idle_keeps _).kept }
+
 pub end_keeps : (k : KernelState) (place code : ℕ) → Keeps k (end_group k place code).to
-unfolding end_group vanished without_descriptors left_alone
+unfolding end_group without_descriptors left_alone
 end_keeps k place code = by_group (flat (slice_get k.groups place))
   where
     by_group : (g : Option Group) → Keeps k (end_of k place code g).to
     by_group None = record { kept = λ first h. h }
     by_group (Some g) =
-        let v = vanished g.number k in
-        let d = all_closed_keeps 32 0 place v in
+        let v = vanished_keeps g.number k in
+        let d = all_closed_keeps 32 0 place (vanished g.number k) in
         let p = parent_keeps (record { parent = g.parent; child = g.number; code = code }) _ in
-        record { kept = λ first h. p.kept first (d.kept first h) }
+        record { kept = λ first h. p.kept first (d.kept first (v.kept first h)) }
 
 exit_bounds : (k : KernelState) (c : Caller) (value : ℕ) → Bounds k (exit_row k c value)
 unfolding exit_row
@@ -312,7 +318,23 @@ row_bounds call.NxThread k c words inputs = thread_bounds k c
 row_bounds call.NxThreadExit k c words inputs = thread_exit_bounds k c (word_at words 0)
 row_bounds call.NxJoin k c words inputs = join_bounds k c (word_at words 0)
 row_bounds call.GetErrno k c words inputs = errno_bounds k c
-row_bounds other k c words inputs = fails k c errno.Enosys
+row_bounds call.NxMqOpen k c words inputs = mq_open_bounds k c (input_at inputs 0) (word_at words 1) (word_at words 2) (word_at words 3)
+row_bounds call.MqClose k c words inputs = mq_close_bounds k c (word_at words 0)
+row_bounds call.MqUnlink k c words inputs = mq_unlink_bounds k c (input_at inputs 0)
+row_bounds call.MqSend k c words inputs = mq_send_bounds k c (word_at words 0) (input_at inputs 0) (word_at words 2) (word_at words 3)
+row_bounds call.MqReceive k c words inputs = mq_receive_bounds k c (word_at words 0) (word_at words 2)
+row_bounds call.NxMqTimedreceive k c words inputs = mq_timedreceive_bounds k c (word_at words 0) (word_at words 2) (word_at words 4)
+row_bounds call.NxSemOpen k c words inputs = sem_open_bounds k c (input_at inputs 0) (word_at words 1) (word_at words 2)
+row_bounds call.NxSemWait k c words inputs = sem_wait_bounds k c (word_at words 0)
+row_bounds call.NxSemTrywait k c words inputs = sem_trywait_bounds k c (word_at words 0)
+row_bounds call.NxSemPost k c words inputs = sem_post_bounds k c (word_at words 0)
+row_bounds call.NxSemClose k c words inputs = sem_close_bounds k c (word_at words 0)
+row_bounds call.NxSleep k c words inputs = sleep_bounds k c (word_at words 0)
+row_bounds call.NxTicks k c words inputs = ticks_bounds k c
+row_bounds call.NxGetenv k c words inputs = getenv_bounds k c (input_at inputs 0) (word_at words 2)
+row_bounds call.Setenv k c words inputs = setenv_bounds k c (input_at inputs 0) (input_at inputs 1) (word_at words 2)
+row_bounds call.Unsetenv k c words inputs = unsetenv_bounds k c (input_at inputs 0)
+row_bounds call.NxEnv k c words inputs = env_bounds k c (word_at words 0) (word_at words 2)
 
 pub step_bounds : (k : KernelState) (thread : ℕ) (which : Option KCall) (words : List ℕ) (inputs : List (List ℕ)) → Bounds (counted k) (step k thread which words inputs)
 unfolding step
@@ -345,7 +367,7 @@ advanced_keeps k = by_ready (first_of search.Ready k.sched.threads)
   where
     by_timed : (t : Option Thread) → Keeps k (passed k t).to
     by_timed None = record { kept = λ first h. h }
-    by_timed (Some t) = record { kept = λ first h. h }
+    by_timed (Some t) = record { kept = (idle_keeps _).kept }
 
     by_ready : (t : Option Thread) → Keeps k (passed_if k t).to
     by_ready (Some t) = record { kept = λ first h. h }

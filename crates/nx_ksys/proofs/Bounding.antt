@@ -14,11 +14,11 @@ use Rattle.nx_ksys.specs.declared.node.Target.TheVariants as target
 use Rattle.nx_ksys.specs.Threads.{flat}
 use Rattle.nx_ksys.specs.State.{KernelState, free_blocks, objects}
 use Rattle.nx_ksys.specs.Paths.{resolved, node_at, parent_of, is_closed}
-use Rattle.nx_ksys.specs.Descriptors.{may_read, may_write, creates, is_exclusive, truncates, Opened, opened, description_at, free_descriptor, is_held, swept_target, without_open, released, closed_as, closed, closed_from}
+use Rattle.nx_ksys.specs.Descriptors.{may_read, may_write, creates, is_exclusive, truncates, Opened, opened, description_at, free_descriptor, is_held, queue_lives, swept_target, without_idle, without_open, released, closed_as, closed, closed_from}
 use Rattle.nx_ksys.specs.Answers.{Stepped, Caller, replied, failed, text_out}
 use Rattle.nx_ksys.specs.FileCalls.{Written, written_at, write_place, file_written, write_file, write_console, write_target, is_stream, write_some, write_opened, write_row, read_file, read_target, read_opened, read_row, describe_at, describe, describe_new, emptied, open_kind, with_new_file, create_at, create, open_found, open_path, open_row, close_at, close_row, seek_from, sought, seek_to, seek_file, seek_target, seek_opened, lseek_row, dup_at, dup_of, dup_row, dup2_of, dup2_row}
 use Rattle.nx_ksys.specs.Bounds.{IsBounded}
-use Rattle.nx_ksys.proofs.BoundLemmas.{file_bounded, new_bounded, swept_bounded}
+use Rattle.nx_ksys.proofs.BoundLemmas.{file_bounded, new_bounded, swept_bounded, unled_queue, kept_bounded, living_bounded}
 
 -- what bounds the paths stays under a call
 pub record Bounds (k : KernelState) (s : Stepped) : Type 0 where
@@ -53,13 +53,19 @@ replies k l c value outputs a = bounds_same k (replied l c value outputs) a
 pub texts : (k : KernelState) (c : Caller) (size : ℕ) (text : List ℕ) → Bounds k (text_out k c size text)
 texts k c size text = either k (nat_lt (length text) (min size 4096)) _ _ (replies k k c (length text) ((text ++ 0 ∷ []) ∷ []) (keeps_refl k)) (fails k c errno.Einval)
 
+-- ---- queues that end
+
+pub idle_keeps : (k : KernelState) → Keeps k (without_idle k)
+unfolding without_idle
+idle_keeps k = record { kept = λ first h. living_bounded first k.tree k.queues (queue_lives k) (unled_queue k) h }
+
 -- ---- descriptors
 
-target_keeps : (k : KernelState) (t : Target) → Keeps k (swept_target k t)
+pub target_keeps : (k : KernelState) (t : Target) → Keeps k (swept_target k t)
 target_keeps k (target.File place) = (record { kept = λ first h. swept_bounded first k.tree k.queues k.opens place h })
 target_keeps k target.Console = (record { kept = λ first h. h })
 target_keeps k target.Null = (record { kept = λ first h. h })
-target_keeps k (target.Queue place) = (record { kept = λ first h. h })
+target_keeps k (target.Queue place) = (record { kept = λ first h. kept_bounded first k.tree k.queues place (queue_lives k place) (unled_queue k place) h })
 target_keeps k (target.Semaphore place) = (record { kept = λ first h. h })
 
 pub released_keeps : (k : KernelState) (place : ℕ) → Keeps k (released k place)

@@ -38,4 +38,6 @@ pub mod Inputs
 pub mod Gathering
 pub mod BoundLemmas
 pub mod Bounding
+pub mod EnvironmentBounds
+pub mod QueueBounds
 pub mod Bounded
