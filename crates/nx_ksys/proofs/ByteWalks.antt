@@ -6,7 +6,8 @@ use Rattle.std.proofs.lemmas.Bool.Decides.{nat_tests}
 use Rattle.std.specs.List.{All}
 use Rattle.std.proofs.lemmas.Option.{slice_get-get_or}
 use Rattle.nx_base.specs.ByteLists.{AreBytes, to_le}
-use Rattle.nx_ksys.specs.ByteLaws.{Each, EachStanding}
+use Rattle.nx_ksys.specs.Soundness.{EachStanding}
+use Rattle.nx_ksys.specs.ByteLaws.{Each}
 use Rattle.nx_ksys.proofs.Standing.{some_same, none_some, map_stood}
 
 -- ---- bytes

@@ -20,8 +20,8 @@ use Rattle.nx_ksys.specs.Descriptors.{queue_lives, living_from, without_idle}
 use Rattle.nx_ksys.specs.Answers.{Caller, replied_then, int_out}
 use Rattle.nx_ksys.specs.Ends.{WithReplies, told_by, first_lost, refuse_first, refuse_lost, and_lost, without_group, kept_message, kept_messages, vanished, without_descriptors, nobodys, left_alone, recorded, hand_over, told_parent, end_of, end_group, exit_row, without_thread, gone, hand_value, end_thread, thread_exit_row}
 use Rattle.nx_ksys.specs.Picking.{timed_out, first_due, wake_first, wake_due, next_late, passed, passed_if, advanced, Picked, picked_after, picked}
-use Rattle.nx_ksys.specs.Soundness.{Stands}
-use Rattle.nx_ksys.specs.ByteLaws.{Each, EachStanding, IsGroupOfBytes, IsThreadOfBytes, IsCodeOfWord, IsMessageOfBytes, IsQueueOfBytes, IsOfBytes, IsTold}
+use Rattle.nx_ksys.specs.Soundness.{Stands, EachStanding}
+use Rattle.nx_ksys.specs.ByteLaws.{Each, IsGroupOfBytes, IsThreadOfBytes, IsCodeOfWord, IsMessageOfBytes, IsQueueOfBytes, IsOfBytes, IsTold}
 use Rattle.nx_ksys.proofs.Standing.{some_same, none_some, flat_some}
 use Rattle.nx_ksys.proofs.ByteWalks.{each_none, each_more, each_joined, each_kept, standing_changed, standing_gone}
 use Rattle.nx_ksys.proofs.PathBytes.{either_is}

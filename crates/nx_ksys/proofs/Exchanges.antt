@@ -6,7 +6,7 @@ use Rattle.nx_base.specs.Calls.{Reply}
 use Rattle.nx_base.specs.declared.calls.KCall.{KCall}
 use Rattle.nx_base.specs.declared.calls.KCall.TheVariants as call
 use Rattle.nx_base.specs.declared.errno.Errno.TheVariants as errno
-use Rattle.nx_ksys.specs.declared.pick.Pick.TheVariants.{Run}
+use Rattle.nx_ksys.specs.declared.pick.Pick.TheVariants.{Run, Idle}
 use Rattle.nx_ksys.specs.Telling.{reply, failure}
 use Rattle.nx_ksys.specs.State.{Limits, KernelState, free_blocks, objects}
 use Rattle.nx_ksys.specs.Boot.{booted}
@@ -14,8 +14,9 @@ use Rattle.nx_ksys.specs.Step.{step}
 use Rattle.nx_ksys.specs.Threads.{thread_of, slot_of, first_of, change_thread, wake, block, with_error}
 use Rattle.nx_ksys.specs.Paths.{node_at}
 use Rattle.nx_ksys.specs.Descriptors.{opened, free_descriptor, without_idle, released, closed}
+use Rattle.nx_ksys.specs.FileCalls.{close_row}
 use Rattle.nx_ksys.specs.Ends.{first_lost, vanished, without_descriptors, left_alone, told_parent, end_group, exit_row}
-use Rattle.nx_ksys.specs.ThreadCalls.{thread_row}
+use Rattle.nx_ksys.specs.ThreadCalls.{setpriority_row, thread_row}
 use Rattle.nx_ksys.specs.QueueCalls.{mq_open_row, mq_unlink_row, queue_of, mq_close_row, mq_send_row, next_message, mq_receive_row, mq_timedreceive_row}
 use Rattle.nx_ksys.specs.SemaphoreCalls.{sem_open_row, semaphore_of, sem_wait_row, sem_trywait_row, sem_post_row, sem_close_row}
 use Rattle.nx_ksys.specs.TimeCalls.{sleep_row, ticks_row}
@@ -132,6 +133,29 @@ its_group_gives_them_up : free_blocks (after full ((1, call.Exit, 0 ∷ [], []) 
 unfolding booted step thread_of first_of first_lost slot_of node_at free_descriptor opened queue_of mq_open_row thread_row mq_send_row block change_thread exit_row end_group told_parent vanished without_idle without_descriptors left_alone closed released
 its_group_gives_them_up = refl
 
+abbrev unlinked : KernelState
+unlinked = after first (opens 7 4 8 ∷ sends 1 97 1 ∷ (1, call.MqUnlink, 0 ∷ [], codes "/q" ∷ []) ∷ [])
+
+its_name_is_free : said unlinked (opens 3 4 8 ∷ receives 1 ∷ []) ≡ failure 1 errno.Enoent ∷ got 1 97 1 ∷ []
+unfolding booted step thread_of first_of slot_of node_at free_descriptor opened queue_of mq_open_row mq_send_row mq_receive_row mq_unlink_row next_message change_thread with_error to_le
+its_name_is_free = refl
+
+it_ends_with_its_descriptor : objects (after unlinked ((1, call.Close, 3 ∷ [], []) ∷ [])) ≡ 0
+unfolding booted step thread_of first_of slot_of node_at free_descriptor opened queue_of mq_open_row mq_send_row mq_unlink_row close_row released closed
+it_ends_with_its_descriptor = refl
+
+nobody_ever_sends : (picked (after first (opens 7 4 8 ∷ receives 1 ∷ []))).pick ≡ Idle
+unfolding booted step thread_of first_of slot_of node_at free_descriptor opened queue_of mq_open_row mq_receive_row next_message block change_thread picked advanced
+nobody_ever_sends = refl
+
+-- of two threads that wait for a message, the second has the greater priority
+abbrev two_wait : KernelState
+two_wait = after (booted small 2 [] []) (opens 7 4 8 ∷ with_fellow ∷ with_fellow ∷ (1, call.NxSetpriority, 3 ∷ 101 ∷ [], []) ∷ receives 2 ∷ receives 3 ∷ [])
+
+the_greatest_priority_is_served : said two_wait (sends 1 97 1 ∷ sends 1 98 1 ∷ []) ≡ reply 1 0 [] ∷ got 3 97 1 ∷ reply 1 0 [] ∷ got 2 98 1 ∷ []
+unfolding booted step thread_of first_of slot_of node_at free_descriptor opened queue_of mq_open_row thread_row setpriority_row mq_send_row mq_receive_row next_message block change_thread wake to_le
+the_greatest_priority_is_served = refl
+
 -- ---- semaphores
 
 abbrev opens_semaphore : List ℕ → ℕ → ℕ → Made
@@ -153,7 +177,24 @@ semaphores_refuse : said first (opens_semaphore (codes "a/b") 4 0 ∷ opens_sema
 unfolding booted step thread_of free_descriptor opened semaphore_of sem_open_row sem_wait_row sem_close_row change_thread with_error released closed
 semaphores_refuse = refl
 
+-- the second thread waits for a semaphore that has no descriptor any more
+abbrev closed_on : KernelState
+closed_on = after first (opens_semaphore (codes "s") 4 0 ∷ with_fellow ∷ (2, call.NxSemWait, 3 ∷ [], []) ∷ (1, call.NxSemClose, 3 ∷ [], []) ∷ [])
+
+its_name_still_finds_it : said closed_on (opens_semaphore (codes "s") 0 0 ∷ (1, call.NxSemPost, 3 ∷ [], []) ∷ []) ≡ reply 1 3 [] ∷ reply 1 0 [] ∷ reply 2 0 [] ∷ []
+unfolding booted step thread_of first_of free_descriptor opened semaphore_of thread_row sem_open_row sem_wait_row sem_post_row sem_close_row block change_thread wake released closed
+its_name_still_finds_it = refl
+
+it_ends_with_its_group : objects (after closed_on ((1, call.Exit, 0 ∷ [], []) ∷ [])) ≡ 0
+unfolding booted step thread_of first_of first_lost free_descriptor opened semaphore_of thread_row sem_open_row sem_wait_row sem_close_row block change_thread exit_row end_group told_parent vanished without_idle without_descriptors left_alone released closed
+it_ends_with_its_group = refl
+
 -- ---- time
+
+-- the earlier deadline wakes first, also where both have come
+two_wake_at_once : (picked (after (booted small 1 [] (5 ∷ [])) (with_fellow ∷ (2, call.NxSleep, 12 ∷ [], []) ∷ (1, call.NxSleep, 10 ∷ [], []) ∷ []))).replies ≡ reply 1 0 [] ∷ reply 2 0 [] ∷ []
+unfolding booted step thread_of first_of thread_row sleep_row block change_thread wake picked advanced first_due without_idle
+two_wake_at_once = refl
 
 -- one number of the lateness list is used each time that time passes
 abbrev slept : KernelState

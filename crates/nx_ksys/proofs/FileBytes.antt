@@ -24,7 +24,8 @@ use Rattle.nx_base.specs.ByteLists.{AreBytes}
 use Rattle.nx_base.specs.Replies.{most_moved}
 use Rattle.nx_ksys.specs.Descriptors.{per_group, set_descriptor, lives, swept, queue_lives, kept_if}
 use Rattle.nx_ksys.specs.FileCalls.{longest_file, reach, with_written, written_some, with_file, with_open, with_second}
-use Rattle.nx_ksys.specs.ByteLaws.{EachStanding, IsQueueOfBytes, AreOfBytes, IsOfBytes, IsInput}
+use Rattle.nx_ksys.specs.Soundness.{EachStanding}
+use Rattle.nx_ksys.specs.ByteLaws.{IsQueueOfBytes, AreOfBytes, IsOfBytes, IsInput}
 use Rattle.nx_ksys.proofs.Standing.{place_found, flat_some, within, take_short}
 use Rattle.nx_ksys.proofs.ByteWalks.{no_bytes, joined_bytes, first_bytes, later_bytes, zero_bytes, each_none, each_more, each_joined, standing_set, standing_gone}
 use Rattle.nx_ksys.proofs.PathBytes.{either_is, resolved_bytes}

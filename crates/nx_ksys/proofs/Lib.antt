@@ -23,6 +23,7 @@ pub mod StartRows
 pub mod ThreadRows
 pub mod Steps
 pub mod Choices
+pub mod Deadlines
 pub mod ByteWalks
 pub mod PathBytes
 pub mod Saying

@@ -21,7 +21,8 @@ use Rattle.nx_ksys.specs.Descriptors.{may_read, may_write, creates, is_exclusive
 use Rattle.nx_ksys.specs.TreeCalls.{with_entries}
 use Rattle.nx_ksys.specs.Answers.{Caller, int_out}
 use Rattle.nx_ksys.specs.QueueCalls.{with_queue, is_queue_name, queue_path, are_queue_flags, are_queue_limits, with_new_queue, create_queue_at, open_queue, mq_open_node, mq_open_row, queue_unlinked, unlink_queue, mq_unlink_node, mq_unlink_row, QueueAt, queue_there, queue_to, queue_behind, queue_of, close_queue, mq_close_row, highest_priority, is_full, with_message, room_of, delivered, with_sent, send_joins, send_to, send_on, mq_send_row, has_priority, top_priority, next_message, without_oldest, sent_at, with_sent_message, joined, receive_then, receive_waits, receive_from, are_past, receive_on, mq_receive_row, mq_timedreceive_row}
-use Rattle.nx_ksys.specs.ByteLaws.{Each, EachStanding, IsMessageOfBytes, IsQueueOfBytes, IsOfBytes}
+use Rattle.nx_ksys.specs.Soundness.{EachStanding}
+use Rattle.nx_ksys.specs.ByteLaws.{Each, IsMessageOfBytes, IsQueueOfBytes, IsOfBytes}
 use Rattle.nx_ksys.proofs.Standing.{some_same, none_some, flat_some, first_found, take_short}
 use Rattle.nx_ksys.proofs.ByteWalks.{joined_bytes, first_bytes, text_bytes, each_none, each_more, each_joined, each_rest, standing_set, standing_gone}
 use Rattle.nx_ksys.proofs.PathBytes.{either_is}

@@ -14,7 +14,8 @@ use Rattle.nx_ksys.specs.Telling.{both, reply, failure}
 use Rattle.nx_ksys.specs.Threads.{changed, change_thread, with_error, block}
 use Rattle.nx_ksys.specs.State.{FileTree, Message, Queue, Group, Code, KernelState}
 use Rattle.nx_ksys.specs.Answers.{Stepped, Caller, with_errno, replied, failed, silent, waits, text_out, int_out}
-use Rattle.nx_ksys.specs.ByteLaws.{Each, EachStanding, IsGroupOfBytes, IsThreadOfBytes, IsCodeOfWord, IsMessageOfBytes, IsQueueOfBytes, AreOfBytes, IsOfBytes, IsTold}
+use Rattle.nx_ksys.specs.Soundness.{EachStanding}
+use Rattle.nx_ksys.specs.ByteLaws.{Each, IsGroupOfBytes, IsThreadOfBytes, IsCodeOfWord, IsMessageOfBytes, IsQueueOfBytes, AreOfBytes, IsOfBytes, IsTold}
 use Rattle.nx_ksys.proofs.Standing.{some_same, none_some}
 use Rattle.nx_ksys.proofs.ByteWalks.{no_bytes, more_bytes, joined_bytes, number_bytes, each_none, each_more, all_from_each, standing_changed}
 

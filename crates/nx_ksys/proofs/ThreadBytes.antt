@@ -21,8 +21,8 @@ use Rattle.nx_ksys.specs.Answers.{Begins, Caller, replied, failed, int_out, is_n
 use Rattle.nx_ksys.specs.Ends.{has_child, has_any_child, is_code, is_any_code}
 use Rattle.nx_ksys.specs.GroupCalls.{arguments_of, is_ended, spawn_priority, most_numbers, with_new_thread, spawned, spawn_at, spawn_kind, spawn_node, spawn_path, spawn_row, without_code, wait_for, wait_child, waitpid_row, arg_out, arg_row, name_of_program, priority_of, nth_group, is_nth, status_of, ps_out, ps_row}
 use Rattle.nx_ksys.specs.ThreadCalls.{at_the_end, prioritised, set_priority, setpriority_row, yielded, yield_row, thread_at, thread_row, is_value, may_join, join_live, join_value, join_row, errno_row}
-use Rattle.nx_ksys.specs.Soundness.{Stands}
-use Rattle.nx_ksys.specs.ByteLaws.{EachStanding, IsGroupOfBytes, IsThreadOfBytes, IsCodeOfWord, IsOfBytes, IsInput}
+use Rattle.nx_ksys.specs.Soundness.{Stands, EachStanding}
+use Rattle.nx_ksys.specs.ByteLaws.{IsGroupOfBytes, IsThreadOfBytes, IsCodeOfWord, IsOfBytes, IsInput}
 use Rattle.nx_ksys.proofs.Standing.{first_found, found_at}
 use Rattle.nx_ksys.proofs.ByteWalks.{no_bytes, more_bytes, joined_bytes, each_none, each_more, each_kept, standing_set}
 use Rattle.nx_ksys.proofs.PathBytes.{either_is, resolved_bytes, last_bytes, lines_bytes, few_lines}

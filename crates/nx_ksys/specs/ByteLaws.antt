@@ -11,15 +11,11 @@ use Rattle.nx_ksys.specs.State.{FileTree, Message, Queue, Group, Code, Limits, K
 use Rattle.nx_ksys.specs.Step.{step}
 use Rattle.nx_ksys.specs.Picking.{picked}
 use Rattle.nx_ksys.specs.Boot.{booted}
-use Rattle.nx_ksys.specs.Soundness.{Stands, IsSound}
+use Rattle.nx_ksys.specs.Soundness.{EachStanding, IsSound}
 
 -- P holds of each
 abbrev pub Each : {A : Type 0} → (A → Type 0) → List A → Type 0
 Each {A} P xs = (place : ℕ) (x : A) → slice_get xs place ≡ Some x → P x
-
--- and of each that stands somewhere
-abbrev pub EachStanding : {A : Type 0} → (A → Type 0) → List (Option A) → Type 0
-EachStanding {A} P xs = (place : ℕ) (x : A) → Stands xs place x → P x
 
 -- a group's texts are bytes, and its arguments can be counted in a word
 pub record IsGroupOfBytes (g : Group) : Type 0 where

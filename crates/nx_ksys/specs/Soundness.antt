@@ -15,6 +15,10 @@ use Rattle.nx_ksys.specs.GroupCalls.{most_numbers}
 abbrev pub Stands : {A : Type 0} → List (Option A) → ℕ → A → Type 0
 Stands xs place x = slice_get xs place ≡ Some (Some x)
 
+-- P holds of each that stands somewhere
+abbrev pub EachStanding : {A : Type 0} → (A → Type 0) → List (Option A) → Type 0
+EachStanding {A} P xs = (place : ℕ) (x : A) → Stands xs place x → P x
+
 -- this call was made, with all its words
 pub record IsAsked (which : KCall) (a : Asked) : Type 0 where
   pub call : a.call ≡ Some which

@@ -1,4 +1,4 @@
-ghost use Rattle.nx_ksys.specs.Laws.{CallsCountOne, ConsolesGrow, PointersMeanNothing, PickingIsStill, ChosenAgain, EndedWithoutGroups};
+ghost use Rattle.nx_ksys.specs.Laws.{CallsCountOne, ConsolesGrow, PointersMeanNothing, PickingIsStill, ChosenAgain, IdleWithoutDeadlines, DueThreadsWake, EndedWithoutGroups};
 ghost use Rattle.nx_ksys.specs.Bounds.{BootIsBounded, CallsStayBounded, ChoicesStayBounded, PathsAreFew};
 ghost use Rattle.nx_ksys.specs.ByteLaws.{BootIsOfBytes, CallsTellBytes, ChoicesTellBytes, WellFormedInputs};
 ghost use Rattle.nx_ksys.specs.TableLaws.{BootIsSound, CallsStaySound, ChoicesStaySound, NumbersWereGiven, SlotsDiffer, CallsChangeThreads, ChoicesChangeThreads, SameMeaningSameStep, NobodysCallIsSilent};
@@ -26,6 +26,14 @@ pub fn choosing_changes_nothing_that_is_reported()
     ensures still { PickingIsStill }
     ensures again { ChosenAgain }
     ensures ended { EndedWithoutGroups }
+{}
+
+/// A law: a run idles only where no thread is ready and none has a deadline. Where no thread is
+/// ready, time passes until one is, and each thread whose deadline has come by then wakes: the
+/// deadlines that are left are later.
+pub fn who_is_due_wakes()
+    ensures idle { IdleWithoutDeadlines }
+    ensures due { DueThreadsWake }
 {}
 
 /// A law: each state that is reached is sound. Numbers of live threads differ, and were given; a
@@ -67,10 +75,10 @@ pub fn what_a_call_means_decides_it()
     ensures nobody { NobodysCallIsSilent }
 {}
 
-/// A law: where the kernel is told bytes, it tells bytes. Names, paths, contents, arguments and
-/// console input are bytes after boot, where the configuration's are, and stay so; and each reply's
-/// value is a word, and its outputs are bytes, if each input of each call is of at most 4,096 bytes.
-/// The inputs of a well formed call are that short.
+/// A law: where the kernel is told bytes, it tells bytes. Names, paths, contents, messages,
+/// arguments, variables and console input are bytes after boot, where the configuration's are, and
+/// stay so; and each reply's value is a word, and its outputs are bytes, if each input of each call
+/// is of at most 4,096 bytes. The inputs of a well formed call are that short.
 pub fn what_the_kernel_tells_is_words_and_bytes()
     ensures boot { BootIsOfBytes }
     ensures call { CallsTellBytes }

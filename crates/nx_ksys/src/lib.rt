@@ -12,8 +12,11 @@ mod thread;
 
 pub use cooked::Cooked;
 pub use laws::{
-    a_call_counts_one, a_console_only_grows, choosing_changes_nothing_that_is_reported,
-    paths_are_bounded_by_objects, pointers_mean_nothing_to_the_kernel,
+    a_call_changes_the_threads_as_it_answers, a_call_counts_one, a_choice_wakes_whom_it_answers,
+    a_console_only_grows, choosing_changes_nothing_that_is_reported,
+    live_threads_have_numbers_and_slots_of_their_own, paths_are_bounded_by_objects,
+    pointers_mean_nothing_to_the_kernel, the_kernel_stays_sound, what_a_call_means_decides_it,
+    what_the_kernel_tells_is_words_and_bytes, who_is_due_wakes,
 };
 pub use moved_bytes::{MOST_MOVED, MovedBytes};
 pub use node::{Node, NodeKind, Open, Target};
