@@ -1,5 +1,5 @@
 -- Entries by index, and what of them a loop has seen.
-use Rattle.std.proofs.Common.{◌≡◌, ℕ, zero, suc, ◌+◌, ◌-◌, ◌<◌, ◌≤◌, List, [], ◌∷◌, ◌++◌, length, map, take, drop, get_or, refl, sym, ap, ◌∙◌, subst, arith, rules, Bool, true, false, cond, not, add-one, filter, append_assoc, append-nil, if◌then◌else◌}
+use Rattle.std.proofs.Common.{◌≡◌, ℕ, zero, suc, ◌+◌, ◌-◌, ◌<◌, List, [], ◌∷◌, ◌++◌, length, map, take, drop, get_or, refl, sym, ap, ◌∙◌, subst, arith, rules, Bool, true, false, cond, not, add-one, filter, append_assoc, append-nil, if◌then◌else◌}
 use Rattle.std.specs.Prelude.{Option, Some, None, slice_get, option_map, ◌||◌, ◌==◌}
 use Rattle.std.specs.List.{IsDistinct, AllByRecursion, list_any, count_by}
 use Rattle.std.specs.Map.{lookup, keys_of}
@@ -118,7 +118,7 @@ nth_next all directory index i e w h k b = ap (λ m. nth_from all directory inde
 
 -- ---- all entries but that of a path
 
-swapped : (a b : List ℕ) → bytes_eq a b ≡ false → bytes_eq b a ≡ false
+pub swapped : (a b : List ℕ) → bytes_eq a b ≡ false → bytes_eq b a ≡ false
 swapped a b e = false_from_ne_true _ (λ k. let same = same_bytes b a k in let t = subst (λ q. bytes_eq q b ≡ true) same (bytes_same b) in absurd cc)
 
 pub other_at : (es : List (List ℕ × Node)) (i : ℕ) (e : List ℕ × Node) (p : List ℕ) → AllByRecursion (λ y. bytes_eq p y ≡ false) (keys_of es) → slice_get es i ≡ Some e → bytes_eq p e.0 ≡ false

@@ -1,3 +1,4 @@
 pub mod WalkLemmas
 pub mod EntryLemmas
 pub mod RenameLemmas
+pub mod BootLemmas

@@ -1,5 +1,7 @@
 -- The entries of the tree, and how its map has them.
-use Rattle.std.specs.Prelude.{ℕ, ◌≡◌, List, map, Option, Some}
+use Rattle.std.specs.Prelude.{ℕ, ◌≡◌, ◌≤◌, List, length, map, Option, Some, slice_get}
+use Rattle.std.specs.List.{IsDistinct}
+use Rattle.std.specs.Str.{bytes_eq}
 use Rattle.std.specs.HashMap.{HashMap}
 use Rattle.arrayvec.specs.ArrayVec.{ArrayVec}
 use Rattle.nx_ksys.specs.declared.node.Node.{Node}
@@ -21,3 +23,8 @@ pub record IsListed (text : List ℕ) (step : Option (List ℕ × Node) → Opti
   pub entry : List ℕ × Node
   pub listed : text ≡ listed_name entry.0 entry.1
   pub found : (rest : Option (List ℕ × Node)) → step rest ≡ Some entry
+
+-- names of programs: no two are the same, and with `/bin/` each makes a path
+pub record AreNames (names : List (List ℕ)) : Type 0 where
+  pub distinct : IsDistinct bytes_eq names
+  pub short : (i : ℕ) (name : List ℕ) → slice_get names i ≡ Some name → length name ≤ 250

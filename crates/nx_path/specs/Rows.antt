@@ -3,7 +3,6 @@ use Rattle.std.specs.Prelude.{ℕ, ◌≡◌, ⊤, List, [], ◌∷◌, Option, 
 use Rattle.arrayvec.specs.ArrayVec.{ArrayVec}
 use Rattle.nx_base.specs.declared.errno.Errno.{Errno}
 use Rattle.nx_ksys.specs.declared.node.Node.{Node}
-use Rattle.nx_ksys.specs.declared.node.Target.{Target}
 use Rattle.nx_ksys.specs.declared.node.Target.TheVariants as target
 use Rattle.nx_ksys.specs.State.{KernelState}
 use Rattle.nx_ksys.specs.Paths.{node_at}

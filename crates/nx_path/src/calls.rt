@@ -47,7 +47,7 @@ impl Tree {
     #[tactic(auto, unfolding(nx_ksys::specs::TreeCalls::kind_row))]
     pub fn kind(&self, directory: &[u8], text: &[u8]) -> Result<u32, Errno>
         requires directory { length directory.now < 256 }
-        requires text { length text.now < 256 }
+        requires text { length text.now ≤ 260 }
         ensures { (k : KernelState) (c : Caller) → kind_row (with_entries k self.now.entries) (in_directory c directory.now) text.now ≡ answered (with_entries k self.now.entries) (in_directory c directory.now) result }
     {
         match self.resolve(directory, text) {
@@ -64,7 +64,7 @@ impl Tree {
     #[tactic(auto, unfolding(nx_ksys::specs::TreeCalls::chdir_row))]
     pub fn enter(&self, directory: &[u8], text: &[u8]) -> Result<Path, Errno>
         requires directory { length directory.now < 256 }
-        requires text { length text.now < 256 }
+        requires text { length text.now ≤ 260 }
         ensures { (k : KernelState) (c : Caller) → chdir_row (with_entries k self.now.entries) (in_directory c directory.now) text.now ≡ stands_in (with_entries k self.now.entries) (in_directory c directory.now) result }
     {
         match self.resolve(directory, text) {
@@ -90,7 +90,7 @@ impl Tree {
         is_full: bool,
     ) -> Result<(), Errno>
         requires directory { length directory.now < 256 }
-        requires text { length text.now < 256 }
+        requires text { length text.now ≤ 260 }
         requires room { is_full ≡ false → length self.old.entries < self.old.limit }
         ensures row { (k : KernelState) (c : Caller) → nat_le k.limits.objects (objects (with_entries k self.old.entries)) ≡ is_full
             → mkdir_row (with_entries k self.old.entries) (in_directory c directory.now) text.now ≡ done (with_entries k self.new.entries) (in_directory c directory.now) result }
@@ -125,7 +125,7 @@ impl Tree {
     #[tactic(auto, unfolding(nx_ksys::specs::TreeCalls::rmdir_row))]
     pub fn remove_directory(&mut self, directory: &[u8], text: &[u8]) -> Result<(), Errno>
         requires directory { length directory.now < 256 }
-        requires text { length text.now < 256 }
+        requires text { length text.now ≤ 260 }
         ensures row { (k : KernelState) (c : Caller) → rmdir_row (with_entries k self.old.entries) (in_directory c directory.now) text.now ≡ done (with_entries k self.new.entries) (in_directory c directory.now) result }
         ensures limit { self.new.limit ≡ self.old.limit }
     {
@@ -156,7 +156,7 @@ impl Tree {
     #[tactic(auto, unfolding(nx_ksys::specs::TreeCalls::unlink_row))]
     pub fn remove_file(&mut self, directory: &[u8], text: &[u8]) -> Result<u32, Errno>
         requires directory { length directory.now < 256 }
-        requires text { length text.now < 256 }
+        requires text { length text.now ≤ 260 }
         ensures row { (k : KernelState) (c : Caller) → unlink_row (with_entries k self.old.entries) (in_directory c directory.now) text.now ≡ name_gone (with_entries k self.new.entries) (in_directory c directory.now) result }
         ensures limit { self.new.limit ≡ self.old.limit }
     {
@@ -179,7 +179,7 @@ impl Tree {
     // The second half of a rename: from a path to the one that a text names.
     fn move_path(&mut self, directory: &[u8], first: &[u8], text: &[u8]) -> Result<(), Errno>
         requires directory { length directory.now < 256 }
-        requires text { length text.now < 256 }
+        requires text { length text.now ≤ 260 }
         ensures row { (k : KernelState) (c : Caller) → rename_second (with_entries k self.old.entries) (in_directory c directory.now) first.now (resolve_text (with_entries k self.old.entries) (in_directory c directory.now) text.now)
             ≡ done (with_entries k self.new.entries) (in_directory c directory.now) result }
         ensures limit { self.new.limit ≡ self.old.limit }
@@ -209,8 +209,8 @@ impl Tree {
     #[tactic(auto, unfolding(nx_ksys::specs::TreeCalls::rename_row))]
     pub fn rename(&mut self, directory: &[u8], first: &[u8], second: &[u8]) -> Result<(), Errno>
         requires directory { length directory.now < 256 }
-        requires first { length first.now < 256 }
-        requires second { length second.now < 256 }
+        requires first { length first.now ≤ 260 }
+        requires second { length second.now ≤ 260 }
         ensures row { (k : KernelState) (c : Caller) → rename_row (with_entries k self.old.entries) (in_directory c directory.now) first.now second.now ≡ done (with_entries k self.new.entries) (in_directory c directory.now) result }
         ensures limit { self.new.limit ≡ self.old.limit }
     {
@@ -239,7 +239,7 @@ impl Tree {
         index: u32,
     ) -> Result<Option<ArrayVec<u8, 256>>, Errno>
         requires directory { length directory.now < 256 }
-        requires text { length text.now < 256 }
+        requires text { length text.now ≤ 260 }
         ensures { (k : KernelState) (c : Caller) (size : ℕ) → readdir_row (with_entries k self.now.entries) (in_directory c directory.now) text.now index size ≡ name_told (with_entries k self.now.entries) (in_directory c directory.now) size result }
     {
         match self.resolve(directory, text) {
@@ -271,7 +271,7 @@ impl Tree {
         free: Option<u32>,
     ) -> Result<Opening, Errno>
         requires directory { length directory.now < 256 }
-        requires text { length text.now < 256 }
+        requires text { length text.now ≤ 260 }
         ensures row { (k : KernelState) (c : Caller) → nat_le k.limits.objects (objects (with_entries k self.now.entries)) ≡ is_full → position_from is_none 0 k.tree.files ≡ free
             → open_row (with_entries k self.now.entries) (in_directory c directory.now) text.now flags ≡ opens_told (with_entries k self.now.entries) (in_directory c directory.now) flags result }
         ensures absent { IfOk result (is_absent self.now.entries) }

@@ -1,6 +1,7 @@
 //! The kernel's paths: which path a text names, what stands at each path, and the calls on them.
 #![tactic(auto)]
 
+mod boot;
 mod calls;
 mod entries;
 mod lookups;

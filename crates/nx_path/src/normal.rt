@@ -21,7 +21,7 @@ fn goes_up(part: &[u8]) -> bool
     part == b"..".as_slice()
 }
 
-fn drop_last(text: &mut ArrayVec<u8, 512>, lengths: &mut ArrayVec<u32, 512>)
+fn drop_last(text: &mut ArrayVec<u8, 1024>, lengths: &mut ArrayVec<u32, 1024>)
     ensures walk { (w : Walk) → IsWalk text.old.items lengths.old.items w.part w → IsWalk text.new.items lengths.new.items w.part (record { kept = without_last w.kept; part = w.part }) }
     ensures text { length text.new.items ≤ length text.old.items }
     ensures lengths { length lengths.new.items ≤ length lengths.old.items }
@@ -32,9 +32,9 @@ fn drop_last(text: &mut ArrayVec<u8, 512>, lengths: &mut ArrayVec<u32, 512>)
     }
 }
 
-fn keep(text: &mut ArrayVec<u8, 512>, lengths: &mut ArrayVec<u32, 512>, part: &[u8])
-    requires text { length text.old.items + length part.now < 512 }
-    requires lengths { length lengths.old.items < 512 }
+fn keep(text: &mut ArrayVec<u8, 1024>, lengths: &mut ArrayVec<u32, 1024>, part: &[u8])
+    requires text { length text.old.items + length part.now < 1024 }
+    requires lengths { length lengths.old.items < 1024 }
     ensures text { text.new.items ≡ text.old.items ++ 47 ∷ part.now }
     ensures lengths { lengths.new.items ≡ lengths.old.items ++ length part.now ∷ [] }
 {
@@ -46,9 +46,9 @@ fn keep(text: &mut ArrayVec<u8, 512>, lengths: &mut ArrayVec<u32, 512>, part: &[
 }
 
 // A part has ended.
-fn end_part(text: &mut ArrayVec<u8, 512>, lengths: &mut ArrayVec<u32, 512>, part: &[u8])
-    requires text { length text.old.items + length part.now < 512 }
-    requires lengths { length lengths.old.items < 512 }
+fn end_part(text: &mut ArrayVec<u8, 1024>, lengths: &mut ArrayVec<u32, 1024>, part: &[u8])
+    requires text { length text.old.items + length part.now < 1024 }
+    requires lengths { length lengths.old.items < 1024 }
     ensures walk { (w : Walk) → IsWalk text.old.items lengths.old.items part.now w → IsWalk text.new.items lengths.new.items part.now (record { kept = after_part w.kept w.part; part = w.part }) }
     ensures text { length text.new.items ≤ length text.old.items + length part.now + 1 }
     ensures lengths { length lengths.new.items ≤ length lengths.old.items + 1 }
@@ -64,13 +64,13 @@ fn end_part(text: &mut ArrayVec<u8, 512>, lengths: &mut ArrayVec<u32, 512>, part
 }
 
 fn read_byte(
-    text: &mut ArrayVec<u8, 512>,
-    lengths: &mut ArrayVec<u32, 512>,
-    part: &mut ArrayVec<u8, 512>,
+    text: &mut ArrayVec<u8, 1024>,
+    lengths: &mut ArrayVec<u32, 1024>,
+    part: &mut ArrayVec<u8, 1024>,
     byte: u8,
 )
-    requires text { length text.old.items + length part.old.items < 512 }
-    requires lengths { length lengths.old.items < 512 }
+    requires text { length text.old.items + length part.old.items < 1024 }
+    requires lengths { length lengths.old.items < 1024 }
     ensures walk { (w : Walk) → IsWalk text.old.items lengths.old.items part.old.items w → IsWalk text.new.items lengths.new.items part.new.items (after_byte w byte) }
     ensures text { length text.new.items + length part.new.items ≤ length text.old.items + length part.old.items + 1 }
     ensures lengths { length lengths.new.items ≤ length lengths.old.items + 1 }
@@ -84,13 +84,13 @@ fn read_byte(
 }
 
 fn read_bytes(
-    text: &mut ArrayVec<u8, 512>,
-    lengths: &mut ArrayVec<u32, 512>,
-    part: &mut ArrayVec<u8, 512>,
+    text: &mut ArrayVec<u8, 1024>,
+    lengths: &mut ArrayVec<u32, 1024>,
+    part: &mut ArrayVec<u8, 1024>,
     bytes: &[u8],
 )
-    requires text { length text.old.items + length part.old.items + length bytes.now ≤ 511 }
-    requires lengths { length lengths.old.items + length bytes.now ≤ 511 }
+    requires text { length text.old.items + length part.old.items + length bytes.now ≤ 1023 }
+    requires lengths { length lengths.old.items + length bytes.now ≤ 1023 }
     ensures walk { (w : Walk) → IsWalk text.old.items lengths.old.items part.old.items w → IsWalk text.new.items lengths.new.items part.new.items (fold after_byte w bytes.now) }
     ensures text { length text.new.items + length part.new.items ≤ length text.old.items + length part.old.items + length bytes.now }
     ensures lengths { length lengths.new.items ≤ length lengths.old.items + length bytes.now }
@@ -142,7 +142,7 @@ fn checked_path(text: &[u8], lengths: &[u32]) -> Option<Path>
 
 fn walk(directory: &[u8], text: &[u8]) -> Option<Path>
     requires directory { length directory.now ≤ 255 }
-    requires text { length text.now ≤ 255 }
+    requires text { length text.now ≤ 260 }
     ensures { option_map (λ p. p.items) result ≡ checked_walk directory.now text.now }
 {
     let mut bytes = ArrayVec::new();
@@ -163,7 +163,7 @@ fn walk(directory: &[u8], text: &[u8]) -> Option<Path>
 #[tactic(auto, using(crate::proofs::WalkLemmas::walk_is_normal))]
 pub fn normal_path(directory: &[u8], text: &[u8]) -> Option<Path>
     requires directory { length directory.now ≤ 255 }
-    requires text { length text.now ≤ 255 }
+    requires text { length text.now ≤ 260 }
     ensures { option_map (λ p. p.items) result ≡ normal directory.now text.now }
 {
     walk(directory, text)

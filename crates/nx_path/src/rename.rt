@@ -51,7 +51,8 @@ pub fn grows_too_long(tree: &IndexMap<Path, Node>, first: &[u8], second: &[u8]) 
     false
 }
 
-fn join(front: &[u8], back: &[u8]) -> Path
+/// One text after another, as a path.
+pub fn join(front: &[u8], back: &[u8]) -> Path
     requires { length front.now + length back.now ≤ 255 }
     ensures { result.items ≡ front.now ++ back.now }
 {

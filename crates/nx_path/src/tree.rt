@@ -1,20 +1,22 @@
-ghost use Rattle.std.specs.Prelude.{◌≡◌, ◌<◌, ◌↔◌, ℕ, [], ◌∷◌, ◌++◌, None, Ok, IfOk, IsTrue, false, length};
+ghost use Rattle.std.specs.Prelude.{◌≡◌, ◌<◌, ◌≤◌, ◌+◌, ◌↔◌, ℕ, [], ◌∷◌, ◌++◌, None, Ok, IfOk, IsTrue, false, length};
 ghost use Rattle.std.specs.List.{list_any, count_by};
 ghost use Rattle.nx_ksys.specs.Paths.{node_at, resolved, entries_but, has_children, nth_name};
 ghost use Rattle.nx_ksys.specs.TreeCalls.{is_taken, is_too_long, renamed_entries, list_name};
 ghost use Rattle.nx_ksys.specs.State.{KernelState, is_made_directory};
 ghost use Rattle.nx_ksys.specs.Answers.{Caller};
 ghost use Rattle.nx_ksys.specs.Descriptors.{is_file_at};
-ghost use Rattle.nx_path.specs.Entries.{Held};
+ghost use Rattle.nx_ksys.specs.Boot.{first_entries};
+ghost use Rattle.nx_path.specs.Entries.{Held, AreNames};
 ghost use Rattle.nx_path.specs.Rows.{path_told, name_told};
 
+use crate::boot::fix_all;
 use crate::entries::{copy_but, find, has_file, made_directories, put};
 use crate::lookups::{first_fault, has_child, nth_child};
 use crate::normal::{Path, normal_path};
 use crate::rename::{copy_renamed, grows_too_long, has_below};
 use arrayvec::ArrayVec;
 use indexmap::IndexMap;
-use nx_base::{Errno, OutOfMemory};
+use nx_base::{Errno, OutOfMemory, Text};
 use nx_ksys::Node;
 use std::alloc::Global;
 use std::marker::Model;
@@ -51,6 +53,21 @@ impl Tree {
         Ok(Tree { live, other, limit })
     }
 
+    /// The paths of boot: directories, devices, and `/bin/NAME` for each program; and room for so
+    /// many objects beside them, at most 65,536.
+    pub fn boot(alloc: Global, programs: &[Text], objects: usize) -> Result<Tree, OutOfMemory>
+        requires names { AreNames programs.now }
+        requires few { length programs.now ≤ 65536 }
+        requires objects { objects ≤ 65536 }
+        ensures { IfOk result (λ t. t ≡ record { entries = first_entries programs.now; limit = length (first_entries programs.now) + objects }) }
+    {
+        let limit = 8 + programs.len() + objects;
+        let mut live = IndexMap::with_capacity(alloc, limit)?;
+        fix_all(&mut live, programs);
+        let other = IndexMap::with_capacity(alloc, limit)?;
+        Ok(Tree { live, other, limit })
+    }
+
     /// What stands at a path.
     pub fn find(&self, path: &Path) -> Option<Node>
         ensures { result ≡ node_at self.now.entries path.now.items }
@@ -64,7 +81,7 @@ impl Tree {
     #[tactic(auto, unfolding(nx_ksys::specs::Paths::resolved))]
     pub fn resolve(&self, directory: &[u8], text: &[u8]) -> Result<Path, Errno>
         requires directory { length directory.now < 256 }
-        requires text { length text.now < 256 }
+        requires text { length text.now ≤ 260 }
         ensures { path_told result ≡ resolved self.now.entries directory.now text.now }
     {
         if text.is_empty() {

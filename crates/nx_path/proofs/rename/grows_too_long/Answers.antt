@@ -1,4 +1,3 @@
-use Rattle.std.proofs.Common.{sym}
 use Rattle.std.specs.Prelude.{nat_le, length}
 use Rattle.nx_ksys.specs.Paths.{renamed}
 use Rattle.nx_path.proofs.WalkLemmas.{at_most, not_at_most}
