@@ -1,12 +1,13 @@
 -- The slab and its keys, where one place changes.
 use Rattle.std.proofs.Common.{◌≡◌, ◌≢◌, ℕ, zero, suc, ◌+◌, ◌<◌, ◌≤◌, ◌⊎◌, List, [], ◌∷◌, length, map, refl, sym, ap, ◌∙◌, subst, arith, inl, inr, ⊎_elim, get_or}
 use Rattle.std.proofs.lemmas.List.{get_or-set_same, get_or-set_other}
-use Rattle.std.specs.Prelude.{slice_get, slice_set, Option, Some, None, IsSome, is_none, replicate, OnSome}
-use Rattle.std.specs.List.{position_from}
+use Rattle.std.specs.Prelude.{◌||◌, slice_get, slice_set, Option, Some, None, IsSome, is_none, replicate, OnSome}
+use Rattle.std.specs.List.{position_from, list_any}
 use Rattle.slab.specs.Slab.{Slab, get, slab_len, Updates, with_value}
 use Rattle.nx_ksys.specs.Threads.{flat}
 use Rattle.nx_ksys.specs.declared.node.Open.{Open}
-use Rattle.nx_group.specs.Places.{keyed, seen, free_one, free_places, AreKept}
+use Rattle.nx_ksys.specs.Descriptors.{is_open_file}
+use Rattle.nx_group.specs.Places.{keyed, opens_file, seen, free_one, free_places, AreKept}
 
 pub seen_same : (s s' : Slab Open) (keys : List (Option ℕ)) → ((i key : ℕ) → slice_get keys i ≡ Some (Some key) → get s' key ≡ get s key) → seen s' keys ≡ seen s keys
 seen_same s s' [] h = refl
@@ -176,3 +177,7 @@ seen_write s keys p key v h is =
 
 pub no_value : (s : Slab Open) (keys : List (Option ℕ)) (p key : ℕ) → AreKept s keys → slice_get keys p ≡ Some (Some key) → get s key ≡ None → ⊥
 no_value s keys p key h is e = not_none (get s key) (h.there p key is) e
+
+pub any_seen : (place : ℕ) (s : Slab Open) (keys : List (Option ℕ)) → list_any (opens_file place s) keys ≡ list_any (is_open_file place) (seen s keys)
+any_seen place s [] = refl
+any_seen place s (k ∷ ks) = ap (λ b. opens_file place s k || b) (any_seen place s ks)

@@ -1,12 +1,17 @@
 -- Descriptions by place, and the keys by which a slab has them.
-use Rattle.std.specs.Prelude.{ℕ, ◌+◌, ◌≡◌, ◌≤◌, List, [], ◌∷◌, map, Option, Some, None, IsSome, slice_get}
+use Rattle.std.specs.Prelude.{ℕ, ◌+◌, ◌≡◌, ◌≤◌, Bool, List, [], ◌∷◌, map, Option, Some, None, IsSome, slice_get}
 use Rattle.slab.specs.Slab.{Slab, get, slab_len}
 use Rattle.nx_ksys.specs.declared.node.Open.{Open}
+use Rattle.nx_ksys.specs.Descriptors.{is_open_file}
 
 -- the description of a key
 abbrev pub keyed : Slab Open → Option ℕ → Option Open
 keyed s None = None
 keyed s (Some key) = get s key
+
+-- the description of a key leads to the file at a place
+abbrev pub opens_file : ℕ → Slab Open → Option ℕ → Bool
+opens_file place s key = is_open_file place (keyed s key)
 
 -- the descriptions by place
 abbrev pub seen : Slab Open → List (Option ℕ) → List (Option Open)

@@ -1,12 +1,13 @@
 ghost use Rattle.std.specs.Prelude.{◌≡◌, ◌≤◌, ◌+◌, Option, Some, None, IsSome, IfOk, slice_get, slice_set, replicate};
-ghost use Rattle.std.specs.List.{position_from};
+ghost use Rattle.std.specs.List.{position_from, list_any};
 ghost use Rattle.std.specs.Option.{is_none};
 ghost use Rattle.slab.specs.Slab.{slab_len};
 ghost use Rattle.nx_ksys.specs.Threads.{flat};
-ghost use Rattle.nx_group.specs.Places.{seen, AreKept};
+ghost use Rattle.nx_ksys.specs.Descriptors.{leads_to_file as leads_to_file_of, is_open_file};
+ghost use Rattle.nx_group.specs.Places.{opens_file as opens_file_of, seen, AreKept};
 
 use nx_base::OutOfMemory;
-use nx_ksys::Open;
+use nx_ksys::{Open, Target};
 use slab::Slab;
 use std::alloc::{AllocError, Global};
 use std::marker::Model;
@@ -96,6 +97,44 @@ fn take(keys: &mut [Option<usize>], slab: &mut Slab<Open>, place: usize)
     }
 }
 
+fn leads_to(place: u32, target: Target) -> bool
+    ensures { result ≡ leads_to_file_of place target }
+{
+    match target {
+        Target::File(other) => other == place,
+        _ => false,
+    }
+}
+
+fn opens_file(place: u32, slab: &Slab<Open>, key: Option<usize>) -> bool
+    ensures { result ≡ opens_file_of place slab.now key }
+{
+    match key {
+        None => false,
+        Some(key) => match slab.get(key) {
+            None => false,
+            Some(description) => leads_to(place, description.target),
+        },
+    }
+}
+
+fn any_key_opens(place: u32, keys: &[Option<usize>], slab: &Slab<Open>) -> bool
+    ensures { result ≡ list_any (opens_file_of place slab.now) keys.now }
+{
+    for key in keys {
+        if opens_file(place, slab, *key) {
+            return true;
+        }
+    }
+    false
+}
+
+fn any_opens_file(place: u32, keys: &[Option<usize>], slab: &Slab<Open>) -> bool
+    ensures { result ≡ list_any (is_open_file place) (seen slab.now keys.now) }
+{
+    any_key_opens(place, keys, slab)
+}
+
 fn no_keys(alloc: Global, count: usize) -> Result<Vec<Option<usize>>, AllocError>
     ensures { IfOk result (λ v. v.items ≡ replicate count None) }
 {
@@ -132,6 +171,13 @@ impl Descriptions {
         ensures { result ≡ position_from is_none 0 self.now }
     {
         first_free(self.keys.as_slice())
+    }
+
+    /// Whether some description leads to the file at a place.
+    pub fn leads_to_file(&self, place: u32) -> bool
+        ensures { result ≡ list_any (is_open_file place) self.now }
+    {
+        any_opens_file(place, self.keys.as_slice(), &self.slab)
     }
 
     /// A description comes to a free place.

@@ -2,6 +2,7 @@ ghost use Rattle.std.specs.Prelude.{◌≡◌, ◌<◌, ◌≤◌, ◌+◌, ◌*
 ghost use Rattle.std.specs.List.{position_from, list_any};
 ghost use Rattle.std.specs.Option.{is_none};
 ghost use Rattle.nx_ksys.specs.Descriptors.{description_at, free_descriptor, set_descriptor, is_at, is_held};
+ghost use Rattle.nx_ksys.specs.GroupCalls.{with_streams};
 
 use nx_base::OutOfMemory;
 use std::alloc::Global;
@@ -91,6 +92,18 @@ impl Descriptors {
         ensures { self.new ≡ set_descriptor self.old place fd to }
     {
         self.items[PER_GROUP * place as usize + fd as usize] = to;
+    }
+
+    /// Descriptors 0, 1 and 2 of a group lead to what those of another do.
+    pub fn share_streams(&mut self, from: u32, to: u32)
+        requires from { 32 * from + 32 ≤ length self.old }
+        requires to { 32 * to + 32 ≤ length self.old }
+        ensures { self.new ≡ with_streams self.old from to }
+    {
+        let streams = [self.get(from, 0), self.get(from, 1), self.get(from, 2)];
+        self.set(to, 0, streams[0]);
+        self.set(to, 1, streams[1]);
+        self.set(to, 2, streams[2]);
     }
 
     /// Whether some descriptor leads to a description.

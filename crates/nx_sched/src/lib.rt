@@ -6,6 +6,7 @@ mod change;
 mod search;
 mod threads;
 
+pub use search::{awaited, deadline, runs_before};
 pub use threads::Threads;
 
 #[cfg(test)]
