@@ -19,7 +19,7 @@ use Rattle.nx_ksys.specs.State.{KernelState}
 use Rattle.nx_ksys.specs.Descriptors.{without_idle}
 use Rattle.nx_ksys.specs.Picking.{timed_out, if_due, first_due, wake_first, wake_due, next_late, passed, passed_if, advanced, Picked, runs, picked_after, picked}
 use Rattle.nx_ksys.specs.Soundness.{Stands, EachStanding}
-use Rattle.nx_ksys.specs.Laws.{IdleWithoutDeadlines, DueThreadsWake}
+use Rattle.nx_ksys.specs.TimeLaws.{IdleWithoutDeadlines, DueThreadsWake}
 use Rattle.nx_ksys.proofs.Standing.{some_same, none_some, off_on, map_stands, eq_to}
 use Rattle.nx_ksys.proofs.Waking.{Found, first_stands}
 

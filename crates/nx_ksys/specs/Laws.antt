@@ -1,14 +1,12 @@
 -- What holds of every call, in few words.
-use Rattle.std.specs.Prelude.{◌≡◌, ◌↔◌, ℕ, ◌+◌, ◌<◌, true, false, List, [], ◌++◌, Option}
+use Rattle.std.specs.Prelude.{◌≡◌, ◌↔◌, ℕ, ◌+◌, false, List, [], ◌++◌, Option}
 use Rattle.std.specs.List.{list_any}
 use Rattle.std.specs.Option.{is_some}
 use Rattle.nx_base.specs.declared.calls.KCall.{KCall}
 use Rattle.nx_ksys.specs.State.{KernelState}
 use Rattle.nx_ksys.specs.Step.{step, meant_words}
-use Rattle.nx_ksys.specs.declared.pick.Pick.TheVariants.{Run, Idle, Ended}
+use Rattle.nx_ksys.specs.declared.pick.Pick.TheVariants.{Run, Ended}
 use Rattle.nx_ksys.specs.Picking.{picked}
-use Rattle.nx_ksys.specs.Threads.{is_ready, is_timed, deadline_of}
-use Rattle.nx_ksys.specs.Soundness.{EachStanding}
 
 -- one list is another with more after it
 abbrev pub Begins : List ℕ → List ℕ → Type 0
@@ -39,14 +37,6 @@ PickingIsStill = (k : KernelState) → IsStill k (picked k).to
 -- where a thread is chosen, choosing again chooses the same, and changes nothing
 abbrev pub ChosenAgain : Type 0
 ChosenAgain = (k : KernelState) (thread : ℕ) → (picked k).pick ≡ Run thread → picked (picked k).to ≡ record { to = (picked k).to; replies = []; pick = Run thread }
-
--- where a run idles no thread is ready, and none has a deadline
-abbrev pub IdleWithoutDeadlines : Type 0
-IdleWithoutDeadlines = (k : KernelState) → (picked k).pick ≡ Idle → EachStanding (λ t. (is_ready t.doing ≡ false) × (is_timed t.doing ≡ false)) k.sched.threads
-
--- where no thread was ready, the deadlines that are left after a choice are later than its time
-abbrev pub DueThreadsWake : Type 0
-DueThreadsWake = (k : KernelState) → list_any is_some k.groups ≡ true → EachStanding (λ t. is_ready t.doing ≡ false) k.sched.threads → EachStanding (λ t. is_timed t.doing ≡ true → (picked k).to.time < deadline_of t.doing) (picked k).to.sched.threads
 
 -- where none is chosen for want of a group, there is none
 abbrev pub EndedWithoutGroups : Type 0

@@ -21,5 +21,6 @@ pub mod Gathered
 pub mod Laws
 pub mod Bounds
 pub mod Soundness
+pub mod TimeLaws
 pub mod TableLaws
 pub mod ByteLaws

@@ -1,7 +1,8 @@
-ghost use Rattle.nx_ksys.specs.Laws.{CallsCountOne, ConsolesGrow, PointersMeanNothing, PickingIsStill, ChosenAgain, IdleWithoutDeadlines, DueThreadsWake, EndedWithoutGroups};
+ghost use Rattle.nx_ksys.specs.Laws.{CallsCountOne, ConsolesGrow, PointersMeanNothing, PickingIsStill, ChosenAgain, EndedWithoutGroups};
 ghost use Rattle.nx_ksys.specs.Bounds.{BootIsBounded, CallsStayBounded, ChoicesStayBounded, PathsAreFew};
 ghost use Rattle.nx_ksys.specs.ByteLaws.{BootIsOfBytes, CallsTellBytes, ChoicesTellBytes, WellFormedInputs};
 ghost use Rattle.nx_ksys.specs.TableLaws.{BootIsSound, CallsStaySound, ChoicesStaySound, NumbersWereGiven, SlotsDiffer, CallsChangeThreads, ChoicesChangeThreads, SameMeaningSameStep, NobodysCallIsSilent};
+ghost use Rattle.nx_ksys.specs.TimeLaws.{IdleWithoutDeadlines, DueThreadsWake};
 
 /// A law: each call counts one, whatever it answers.
 pub fn a_call_counts_one()
