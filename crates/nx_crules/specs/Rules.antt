@@ -176,13 +176,18 @@ abbrev pub address_rule : Typed → Typed → Result Typed CKind
 address_rule x i = address_typed (pointed x.gives i.gives) x.tree i.tree
 
 -- A number may be cast to a number, to a char or to a pointer (C11 6.5.4).
+abbrev pub pointer_to : Base → CType
+pointer_to base.Int = type.Pointer element.Int false
+pointer_to base.Char = type.Pointer element.Char false
+pointer_to base.ConstChar = type.Pointer element.Char true
+
+abbrev pub number_to : Base → Option (CType × Conversion)
+number_to base.Int = Some (type.Int, convert.ToInt)
+number_to base.Char = Some (type.Int, convert.ToChar)
+number_to base.ConstChar = None
+
 abbrev pub conversion : Base → Bool → Option (CType × Conversion)
-conversion base.Int false = Some (type.Int, convert.ToInt)
-conversion base.Char false = Some (type.Int, convert.ToChar)
-conversion base.ConstChar false = None
-conversion base.Int true = Some (type.Pointer element.Int false, convert.ToPointer)
-conversion base.Char true = Some (type.Pointer element.Char false, convert.ToPointer)
-conversion base.ConstChar true = Some (type.Pointer element.Char true, convert.ToPointer)
+conversion b star = if star then Some (pointer_to b, convert.ToPointer) else number_to b
 
 abbrev pub converted : Option (CType × Conversion) → CheckedExpr → Result Typed CKind
 converted (Some p) t = typed p.0 (expr.Convert p.1 t)
@@ -235,9 +240,16 @@ compounds op s type.Int = compounds_number op s
 compounds op s _ = false
 
 -- An assignment to a variable.
+abbrev pub cell_takes : Option IntOperator → Held → CType → Bool
+cell_takes None h g = takes (type_of h) g
+cell_takes (Some op) h g = compounds op h.scalar g
+
+abbrev pub cell_set : Option IntOperator → Scalar → Cell → CheckedExpr → CheckedExpr
+cell_set None s x e = expr.Assign s x e
+cell_set (Some op) s x e = expr.Compound op s x e
+
 abbrev pub cell_assign : Option IntOperator → Cell → Held → Typed → Result Typed CKind
-cell_assign None x h e = if takes (type_of h) e.gives then typed (type_of h) (expr.Assign h.scalar x e.tree) else wrong
-cell_assign (Some op) x h e = if compounds op h.scalar e.gives then typed (type_of h) (expr.Compound op h.scalar x e.tree) else wrong
+cell_assign op x h e = if cell_takes op h e.gives then typed (type_of h) (cell_set op h.scalar x e.tree) else wrong
 
 -- An assignment to an element, which is a number.
 abbrev pub element_set : Option IntOperator → Element → CheckedPlace → CheckedExpr → CheckedExpr

@@ -4,6 +4,8 @@ ghost use Rattle.nx_crules.specs.Rules.{
   compound_of as compound_by,
   moves as moves_pointer,
   compounds as compounds_with,
+  cell_takes as cell_takes_type,
+  cell_set as cell_set_of,
   cell_assign as cell_assign_of,
   element_set as element_set_of,
   element_assign as element_assign_of,
@@ -54,6 +56,29 @@ fn compounds(op: IntOperator, scalar: Scalar, given: CType) -> bool
     }
 }
 
+fn cell_takes(op: Option<IntOperator>, held: Held, given: CType) -> bool
+    ensures { result ≡ cell_takes_type op held given }
+{
+    match op {
+        None => takes(held.type_of(), given),
+        Some(op) => compounds(op, held.scalar, given),
+    }
+}
+
+fn cell_set(
+    op: Option<IntOperator>,
+    scalar: Scalar,
+    cell: Cell,
+    tree: Shared<CheckedExpr>,
+) -> CheckedExpr
+    ensures { result ≡ cell_set_of op scalar cell tree }
+{
+    match op {
+        None => CheckedExpr::Assign(scalar, cell, tree),
+        Some(op) => CheckedExpr::Compound(op, scalar, cell, tree),
+    }
+}
+
 fn cell_assign(
     alloc: Global,
     line: u32,
@@ -64,30 +89,14 @@ fn cell_assign(
 ) -> Result<Typed, CFault>
     ensures { IsGiven result (at line (cell_assign_of op cell held e)) }
 {
-    let gives = held.type_of();
-    match op {
-        None => {
-            if takes(gives, e.gives) {
-                let tree = Shared::new(alloc, e.tree)?;
-                Ok(Typed {
-                    gives,
-                    tree: CheckedExpr::Assign(held.scalar, cell, tree),
-                })
-            } else {
-                Err(mismatch(line))
-            }
-        }
-        Some(op) => {
-            if compounds(op, held.scalar, e.gives) {
-                let tree = Shared::new(alloc, e.tree)?;
-                Ok(Typed {
-                    gives,
-                    tree: CheckedExpr::Compound(op, held.scalar, cell, tree),
-                })
-            } else {
-                Err(mismatch(line))
-            }
-        }
+    if cell_takes(op, held, e.gives) {
+        let tree = Shared::new(alloc, e.tree)?;
+        Ok(Typed {
+            gives: held.type_of(),
+            tree: cell_set(op, held.scalar, cell, tree),
+        })
+    } else {
+        Err(mismatch(line))
     }
 }
 

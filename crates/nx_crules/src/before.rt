@@ -5,6 +5,8 @@ ghost use Rattle.nx_crules.specs.Rules.{
   prefix_typed,
   deref_typed,
   unary_rule,
+  pointer_to,
+  number_to,
   conversion as conversion_to,
   converted as converted_to,
   cast_rule,
@@ -65,18 +67,33 @@ pub fn unary(alloc: Global, line: u32, op: UnaryOperator, x: Typed) -> Result<Ty
     }
 }
 
+fn pointer_to(base: Base) -> CType
+    ensures { result ≡ pointer_to base }
+{
+    match base {
+        Base::Int => CType::Pointer(Element::Int, false),
+        Base::Char => CType::Pointer(Element::Char, false),
+        Base::ConstChar => CType::Pointer(Element::Char, true),
+    }
+}
+
+fn number_to(base: Base) -> Option<(CType, Conversion)>
+    ensures { result ≡ number_to base }
+{
+    match base {
+        Base::Int => Some((CType::Int, Conversion::ToInt)),
+        Base::Char => Some((CType::Int, Conversion::ToChar)),
+        Base::ConstChar => None,
+    }
+}
+
 fn conversion(base: Base, star: bool) -> Option<(CType, Conversion)>
     ensures { result ≡ conversion_to base star }
 {
-    match (base, star) {
-        (Base::Int, false) => Some((CType::Int, Conversion::ToInt)),
-        (Base::Char, false) => Some((CType::Int, Conversion::ToChar)),
-        (Base::ConstChar, false) => None,
-        (Base::Int, true) => Some((CType::Pointer(Element::Int, false), Conversion::ToPointer)),
-        (Base::Char, true) => Some((CType::Pointer(Element::Char, false), Conversion::ToPointer)),
-        (Base::ConstChar, true) => {
-            Some((CType::Pointer(Element::Char, true), Conversion::ToPointer))
-        }
+    if star {
+        Some((pointer_to(base), Conversion::ToPointer))
+    } else {
+        number_to(base)
     }
 }
 

@@ -1,4 +1,4 @@
-ghost use Rattle.std.specs.Prelude.{◌≡◌};
+ghost use Rattle.std.specs.Prelude.{◌≡◌, IfOk};
 ghost use Rattle.nx_crules.specs.Answers.{at, IsGiven};
 ghost use Rattle.nx_crules.specs.Rules.{
   numbers as numbers_of,
@@ -18,7 +18,20 @@ use nx_checked::{CheckedExpr, Element, IntOperator};
 use nx_ctok::CFault;
 use nx_ctree::BinaryOperator;
 use nx_shared::Shared;
-use std::alloc::Global;
+use std::alloc::{AllocError, Global};
+
+// Two operands as parts of a tree.
+fn shared_pair(
+    alloc: Global,
+    a: CheckedExpr,
+    b: CheckedExpr,
+) -> Result<(Shared<CheckedExpr>, Shared<CheckedExpr>), AllocError>
+    ensures { IfOk result (λ r. r ≡ (a, b)) }
+{
+    let a = Shared::new(alloc, a)?;
+    let b = Shared::new(alloc, b)?;
+    Ok((a, b))
+}
 
 fn numbers(op: BinaryOperator, a: Shared<CheckedExpr>, b: Shared<CheckedExpr>) -> CheckedExpr
     ensures { result ≡ numbers_of op a b }
@@ -67,8 +80,7 @@ fn moved(
 ) -> Result<Typed, CFault>
     ensures { IsGiven result (at line (moved_of up element constant a b)) }
 {
-    let a = Shared::new(alloc, a)?;
-    let b = Shared::new(alloc, b)?;
+    let (a, b) = shared_pair(alloc, a, b)?;
     let gives = CType::Pointer(element, constant);
     match up {
         Some(true) => Ok(Typed {
@@ -96,8 +108,7 @@ fn moved_by(
 {
     match up {
         Some(true) => {
-            let a = Shared::new(alloc, a)?;
-            let b = Shared::new(alloc, b)?;
+            let (a, b) = shared_pair(alloc, a, b)?;
             Ok(Typed {
                 gives: CType::Pointer(element, constant),
                 tree: CheckedExpr::AdvanceBy(element, a, b),
@@ -138,8 +149,7 @@ fn number_first(
 {
     match y.gives {
         CType::Int => {
-            let a = Shared::new(alloc, a)?;
-            let b = Shared::new(alloc, y.tree)?;
+            let (a, b) = shared_pair(alloc, a, y.tree)?;
             Ok(int(numbers(op, a, b)))
         }
         CType::Pointer(element, constant) => {
@@ -194,8 +204,7 @@ fn chosen(
     ensures { IsGiven result (Ok (record { gives = gives; tree = CheckedExpr.Conditional c a b })) }
 {
     let c = Shared::new(alloc, c)?;
-    let a = Shared::new(alloc, a)?;
-    let b = Shared::new(alloc, b)?;
+    let (a, b) = shared_pair(alloc, a, b)?;
     let tree = CheckedExpr::Conditional(c, a, b);
     Ok(Typed { gives, tree })
 }

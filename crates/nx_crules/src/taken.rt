@@ -21,9 +21,9 @@ pub(crate) fn mismatch(line: u32) -> CFault
 pub(crate) fn is_same(a: Element, b: Element) -> bool
     ensures { result ≡ is_same_element a b }
 {
-    match (a, b) {
-        (Element::Int, Element::Int) | (Element::Char, Element::Char) => true,
-        _ => false,
+    match a {
+        Element::Int => matches!(b, Element::Int),
+        Element::Char => matches!(b, Element::Char),
     }
 }
 
