@@ -1,2 +1,4 @@
 pub mod Forms
 mod Rows
+pub mod Blocks
+pub mod Arguments

@@ -1,5 +1,5 @@
 -- The steps of small programs. The start of a variable and the fall off the end of the function are a step each.
-use Rattle.std.proofs.Common.{◌≡◌, ℕ, List, [], ◌∷◌, Option, Some, None, true, refl}
+use Rattle.std.proofs.Common.{◌≡◌, ℕ, List, [], ◌∷◌, Some, None, true, refl}
 use Rattle.nx_base.specs.ByteLists.{get_bytes, put_bytes, from_le, to_le}
 use Rattle.nx_base.specs.Arithmetic.{alu_of}
 use Rattle.nx_checked.specs.declared.checked.Cell.TheVariants as cell

@@ -1,7 +1,6 @@
 -- What remains to be done in a call: a list of items, the next one first.
 use Rattle.std.specs.Prelude.{ℕ, zero, suc, ◌+◌, ◌-◌, ◌*◌, ◌/◌, Bool, List, [], ◌∷◌, Option, Some, None}
 use Rattle.nx_checked.specs.declared.checked.Cell.{Cell}
-use Rattle.nx_checked.specs.declared.checked.ArrayName.{ArrayName}
 use Rattle.nx_checked.specs.declared.checked.Element.{Element}
 use Rattle.nx_checked.specs.declared.checked.Scalar.{Scalar}
 use Rattle.nx_checked.specs.declared.checked.Shape.{Shape}

@@ -1,12 +1,11 @@
 -- What a checked program does, one step at a time.
 
-use Rattle.std.specs.Prelude.{ℕ, ℤ, zero, suc, ◌+◌, ◌*◌, ◌%◌, Bool, true, false, List, [], ◌∷◌, ◌++◌, length, get_or, slice_get, Option, Some, None, Result, Ok, Err}
+use Rattle.std.specs.Prelude.{ℕ, ℤ, zero, suc, ◌+◌, Bool, true, false, List, [], ◌∷◌, ◌++◌, length, get_or, slice_get, Option, Some, None, Result, Ok, Err}
 use Rattle.nx_base.specs.Arithmetic.{alu_of, signed}
 use Rattle.nx_base.specs.declared.operations.AluOp.TheVariants as alu
 use Rattle.nx_base.specs.Calls.{Call}
 use Rattle.nx_checked.specs.declared.checked.Cell.{Cell}
 use Rattle.nx_checked.specs.declared.checked.ArrayName.TheVariants as array
-use Rattle.nx_checked.specs.declared.checked.Element.{Element}
 use Rattle.nx_checked.specs.declared.checked.Scalar.{Scalar}
 use Rattle.nx_checked.specs.declared.checked.Scalar.TheVariants as scalar
 use Rattle.nx_checked.specs.declared.checked.IntOperator.{IntOperator}
@@ -14,7 +13,7 @@ use Rattle.nx_checked.specs.declared.checked.IntOperator.TheVariants.{Add, Subtr
 use Rattle.nx_checked.specs.declared.checked.StepValue.{StepValue}
 use Rattle.nx_checked.specs.declared.checked.StepValue.TheVariants.{New, Old}
 use Rattle.nx_checked.specs.declared.checked.UsedCall.{UsedCall}
-use Rattle.nx_checked.specs.Trees.{Expr, Stmt, Stmts, Done, Then, Fun, Program}
+use Rattle.nx_checked.specs.Trees.{Stmt, Done, Then, Fun, Program}
 use Rattle.nx_cobjects.specs.declared.value.Name.TheVariants as name
 use Rattle.nx_cobjects.specs.declared.value.Value.{Value}
 use Rattle.nx_cobjects.specs.declared.value.Value.TheVariants.{Int, Point, Entry}
@@ -23,7 +22,7 @@ use Rattle.nx_cobjects.specs.declared.value.WrongKind.{WrongKind}
 use Rattle.nx_cobjects.specs.declared.value.WrongKind.TheVariants as wrong
 use Rattle.nx_cobjects.specs.Values.{int_in, kept, cut, first_value, moved, operated}
 use Rattle.nx_cobjects.specs.Groups.{Object, Group}
-use Rattle.nx_cobjects.specs.Memory.{Memory, memory, load, store, prefixed, infixed, cell_value, cells_with, group_with, new_object, end_arrays, value_in}
+use Rattle.nx_cobjects.specs.Memory.{Memory, memory, load, store, prefixed, infixed, cell_value, cells_with, group_with, new_object, end_arrays}
 use Rattle.nx_cobjects.specs.Buffers.{inputs_of, outputs_of, words_of, replied}
 use Rattle.nx_cmean.specs.declared.item.Leaf.{Leaf}
 use Rattle.nx_cmean.specs.declared.item.Leaf.TheVariants as leaf

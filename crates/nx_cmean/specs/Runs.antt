@@ -5,7 +5,7 @@ use Rattle.nx_base.specs.Calls.{Call}
 use Rattle.nx_checked.specs.Trees.{Program}
 use Rattle.nx_cobjects.specs.Groups.{Group}
 use Rattle.nx_cmean.specs.Meaning.{Frame, Thread, Answer, Next, Asks, Ends, Wrong, fun_at, settled, step, first_thread, replied_memory, replied_thread}
-use Rattle.nx_cmean.specs.Meanings.{Both, Turn, GoesOn, Makes, EndsBy, GoesWrong, Meaning, run_of}
+use Rattle.nx_cmean.specs.Meanings.{Turn, GoesOn, Makes, EndsBy, GoesWrong, Meaning, run_of}
 
 -- The bytes of all open calls.
 abbrev pub stack_need : Program → List Frame → ℕ

@@ -1,7 +1,5 @@
 -- What an item of the code is.
-use Rattle.std.specs.Prelude.{List, map, drop, Option, option_map}
-use Rattle.nx_checked.specs.declared.checked.CheckedExpr.{CheckedExpr}
-use Rattle.nx_checked.specs.declared.checked.CheckedStmt.{CheckedStmt}
+use Rattle.std.specs.Prelude.{List, map, drop, option_map}
 use Rattle.nx_checked.specs.Trees.{expr_of, stmt_of, stmts_of}
 use Rattle.nx_cmean.specs.declared.item.Item as rust_item
 use Rattle.nx_cmean.specs.declared.item.Item.TheVariants as item

@@ -2,5 +2,6 @@
 #![tactic(auto)]
 
 mod item;
+mod stack;
 
 pub use item::{Item, Leaf};
