@@ -7,3 +7,7 @@ pub mod SimpleReads
 pub mod Sound
 pub mod Complete
 pub mod ScriptReads
+pub mod Rounds
+pub mod ItemForms
+pub mod ListRounds
+pub mod Answered

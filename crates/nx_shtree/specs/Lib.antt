@@ -4,3 +4,6 @@ pub mod Grammar
 pub mod Reading
 pub mod Laws
 pub mod Stored
+pub mod Answers
+pub mod Steps
+pub mod Scripts

@@ -1,5 +1,6 @@
 -- How a script is read.
 use Rattle.std.specs.Prelude.{ℕ, zero, suc, Bool, true, false, nat_lt, List, [], ◌∷◌, ◌++◌, length, Option, None, Some, if◌then◌else◌}
+use Rattle.nx_grammar.specs.declared.kind.Kind.{Kind}
 use Rattle.nx_grammar.specs.declared.kind.Kind.TheVariants.{Syntax, Limit}
 use Rattle.nx_grammar.specs.Reading.{Reading, Pick, Refuse, Pass, Take, dispatch, seq, done, expect, then_pick, loop}
 use Rattle.nx_shtok.specs.declared.token.TokenKind.{TokenKind}
@@ -118,11 +119,14 @@ deeper m body t key.Until = Take (until_rest m body t)
 deeper m body t _ = Refuse Syntax
 
 -- And where none is.
+abbrev pub barred_kind : Keyword → Kind
+barred_kind key.If = Limit
+barred_kind key.While = Limit
+barred_kind key.Until = Limit
+barred_kind _ = Syntax
+
 abbrev pub barred : Keyword → Pick Token Item
-barred key.If = Refuse Limit
-barred key.While = Refuse Limit
-barred key.Until = Refuse Limit
-barred _ = Refuse Syntax
+barred k = Refuse (barred_kind k)
 
 -- An item, where a reserved word does this.
 abbrev pub item_pick : ℕ → (Token → Keyword → Pick Token Item) → Token → Head → Pick Token Item

@@ -2,9 +2,17 @@
 //! Which tokens are a script stands in `specs/Grammar.antt`, how they are read in `specs/Reading.antt`.
 #![tactic(auto)]
 
+mod copy;
 mod grammar;
+mod head;
 mod keyword;
+mod list;
+mod nodes;
+mod parse;
 mod script;
+mod simple;
+mod stop;
+mod tokens;
 mod tree;
 
 pub use grammar::{
@@ -12,5 +20,6 @@ pub use grammar::{
     a_script_that_is_read_was_there, a_script_that_was_there_is_read,
 };
 pub use keyword::Keyword;
+pub use parse::parse_script;
 pub use script::Script;
 pub use tree::{Item, ItemKind, Mode, Redirection, Simple};
