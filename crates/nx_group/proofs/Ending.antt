@@ -8,13 +8,13 @@ use Rattle.nx_ksys.specs.declared.thread.Doing.TheVariants.{Ready, Waits, Until}
 use Rattle.nx_ksys.specs.declared.thread.Search.TheVariants as search
 use Rattle.nx_ksys.specs.Telling.{reply}
 use Rattle.nx_ksys.specs.Answers.{int_out}
-use Rattle.nx_ksys.specs.Threads.{Schedule, is_ready, is_sought, awaited, is_for_child, first_of, wake}
-use Rattle.nx_ksys.specs.State.{Group, Code, KernelState}
-use Rattle.nx_ksys.specs.Ends.{WithReplies, refuse_lost, and_lost, hand_over, told_parent}
+use Rattle.nx_ksys.specs.Threads.{Schedule, is_ready, is_sought, awaited, is_for_child, is_for_thread, first_of, wake}
+use Rattle.nx_ksys.specs.State.{Group, Code, ThreadValue, KernelState}
+use Rattle.nx_ksys.specs.Ends.{WithReplies, refuse_lost, and_lost, hand_over, hand_value, told_parent}
 use Rattle.nx_ksys.proofs.Standing.{ne_to, eq_to}
 use Rattle.nx_ksys.proofs.Waking.{Found, first_stands}
 use Rattle.nx_group.specs.Waiting.{waiting}
-use Rattle.nx_group.specs.Living.{living, IsTold}
+use Rattle.nx_group.specs.Living.{living, with_values, IsTold}
 use Rattle.nx_group.proofs.Waits.{less_at, and_right}
 
 waits_for : (d : Doing) (child : ℕ) → is_for_child child (awaited d) ≡ true → is_ready d ≡ false
@@ -63,3 +63,23 @@ pub told_someone : (c : Code) (k : KernelState) (s x y : Schedule) (groups : Lis
     → IsTold rs vs (living k y groups after) (told_parent c (living k s groups codes))
 unfolding told_parent
 told_someone c k s x y groups codes after rs us vs z t a b = rw (ne_to c.parent 0 z) (lost_after k x y groups after c.parent rs us vs _ t a b)
+
+-- ---- the value of a thread that ended
+
+joins : (d : Doing) (thread : ℕ) → is_for_thread thread (awaited d) ≡ true → is_ready d ≡ false
+joins (Ready since) thread e = cc
+joins (Waits for since) thread e = refl
+joins (Until for since deadline) thread e = refl
+
+pub joined : (s : Schedule) (thread : ℕ) (t : Thread) → first_of (search.Joiner thread) s.threads ≡ Some t → waiting (wake s t.number).threads + 1 ≤ waiting s.threads
+unfolding wake
+joined s thread t e =
+    let f = first_stands (search.Joiner thread) s.threads t e in
+    less_at s.moments t s.threads f.slot f.stands (joins t.doing thread f.passes)
+
+pub value_kept : (k : KernelState) (s : Schedule) (values after : List ThreadValue) (v : ThreadValue) (t : Option Thread) (rs : List Reply) → t ≡ None → after ≡ values ++ v ∷ [] → IsTold rs rs (with_values k s after) (hand_value (with_values k s values) v t)
+value_kept k s values after v t rs n e = rw n (record { state = ap (λ vs. with_values k s vs) e; replies = sym (append-nil rs) })
+
+pub value_taken : (k : KernelState) (s x : Schedule) (values : List ThreadValue) (v : ThreadValue) (o : Option Thread) (t : Thread) (rs after : List Reply) → o ≡ Some t → x ≡ wake s t.number
+    → after ≡ rs ++ reply t.number 0 (int_out v.value ∷ []) ∷ [] → IsTold rs after (with_values k x values) (hand_value (with_values k s values) v o)
+value_taken k s x values v o t rs after n w e = rw n (record { state = ap (λ q. with_values k q values) w; replies = e })

@@ -1,4 +1,4 @@
-ghost use Rattle.std.specs.Prelude.{◌≡◌, ◌<◌, ◌≤◌, Bool, not, Some, None, IfOk, IfSome, length, map, option_map, replicate, slice_get, slice_set};
+ghost use Rattle.std.specs.Prelude.{◌≡◌, ◌<◌, ◌≤◌, if◌then◌else◌, Some, None, IfOk, IfSome, length, map, option_map, replicate, slice_get, slice_set};
 ghost use Rattle.std.specs.List.{find, list_any, position_from, count_by};
 ghost use Rattle.std.specs.Option.{is_some};
 ghost use Rattle.nx_ksys.specs.Threads.{flat};
@@ -118,6 +118,46 @@ fn enter_at(groups: &mut [Option<Group>], place: usize, directory: &[u8])
     }
 }
 
+fn count_earlier_one(number: u32, group: &Option<Group>) -> usize
+    ensures count { result ≡ (if comes_earlier number group.now then 1 else 0) }
+    ensures few { result ≤ 1 }
+{
+    match group {
+        None => 0,
+        Some(group) => if group.number() < number { 1 } else { 0 },
+    }
+}
+
+fn count_earlier(number: u32, groups: &[Option<Group>]) -> usize
+    ensures { result ≡ count_by (comes_earlier number) groups.now }
+{
+    let mut count = 0;
+    for group in groups {
+        count += count_earlier_one(number, group);
+    }
+    count
+}
+
+fn is_at(index: u32, group: &Option<Group>, groups: &[Option<Group>]) -> bool
+    ensures { result ≡ is_nth groups.now index group.now }
+{
+    match group {
+        None => false,
+        Some(group) => count_earlier(group.number(), groups) == index as usize,
+    }
+}
+
+fn find_nth(index: u32, groups: &[Option<Group>]) -> Option<&Group>
+    ensures { option_map (λ r. r.now) result ≡ flat (find (is_nth groups.now index) groups.now) }
+{
+    for group in groups {
+        if is_at(index, group, groups) {
+            return group.as_ref();
+        }
+    }
+    None
+}
+
 impl Groups {
     /// No group, and so many places, at most 64.
     pub fn new(alloc: Global, threads: u32) -> Result<Groups, OutOfMemory>
@@ -182,6 +222,14 @@ impl Groups {
         ensures { result ≡ list_any (has_program program) self.now }
     {
         self.items.iter().any(|group| runs(program, group))
+    }
+
+    /// The live group of that index, in the order of their numbers.
+    #[tactic(auto, unfolding(nx_ksys::specs::GroupCalls::nth_group))]
+    pub fn nth(&self, index: u32) -> Option<&Group>
+        ensures { option_map (λ r. r.now) result ≡ nth_group self.now index }
+    {
+        find_nth(index, self.items.as_slice())
     }
 
     /// A group begins at a place.

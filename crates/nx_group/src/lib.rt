@@ -19,7 +19,7 @@ pub use descriptors::Descriptors;
 pub use ends::{int_bytes, tell_parent};
 pub use group::Group;
 pub use groups::Groups;
-pub use joins::is_joined;
+pub use joins::{hand_value, is_joined};
 pub use lost::{first_lost, refuse_lost};
 pub use value::{ThreadValue, Values};
 
