@@ -23,3 +23,6 @@ pub use keyword::Keyword;
 pub use parse::parse_script;
 pub use script::Script;
 pub use tree::{Item, ItemKind, Mode, Redirection, Simple};
+
+#[cfg(test)]
+mod tests;
