@@ -2,13 +2,13 @@
 //! Which tokens are an expression stands in `nx_ctree`'s definitions, how they are read in `specs/Reading.antt`.
 #![tactic(auto)]
 
-mod operand;
-mod parts;
+pub mod operand;
+pub mod parts;
 mod reading;
-mod signs;
+pub mod signs;
 mod stop;
-mod tokens;
-mod trees;
+pub mod tokens;
+pub mod trees;
 mod types;
 
 pub use operand::Tall;

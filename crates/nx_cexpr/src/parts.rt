@@ -18,7 +18,8 @@ fn index_kind(alloc: Global, base: Expr, index: Expr) -> Result<ExprKind, AllocE
     Ok(ExprKind::Index(base, index))
 }
 
-pub(crate) fn unary_kind(
+/// A unary operator before an expression (C11 section 6.5.3).
+pub fn unary_kind(
     alloc: Global,
     operator: UnaryOperator,
     part: Expr,
@@ -49,7 +50,7 @@ fn form_kind(alloc: Global, form: Form) -> Result<ExprKind, AllocError>
 }
 
 /// An operand's tree.
-pub(crate) fn expr_of(alloc: Global, operand: Operand) -> Result<Expr, AllocError>
+pub fn expr_of(alloc: Global, operand: Operand) -> Result<Expr, AllocError>
     ensures { IfOk result (λ a. a ≡ operands.expr_of operand) }
 {
     let line = operand.line;
@@ -58,7 +59,7 @@ pub(crate) fn expr_of(alloc: Global, operand: Operand) -> Result<Expr, AllocErro
 }
 
 /// An operand's tree as a part of another.
-pub(crate) fn shared(alloc: Global, operand: Operand) -> Result<Shared<Expr>, AllocError>
+pub fn shared(alloc: Global, operand: Operand) -> Result<Shared<Expr>, AllocError>
     ensures { IfOk result (λ a. a ≡ operands.expr_of operand) }
 {
     let expr = expr_of(alloc, operand)?;
@@ -66,7 +67,7 @@ pub(crate) fn shared(alloc: Global, operand: Operand) -> Result<Shared<Expr>, Al
 }
 
 /// Two operands' trees as parts of another.
-pub(crate) fn shared_both(
+pub fn shared_both(
     alloc: Global,
     first: Operand,
     second: Operand,
@@ -79,7 +80,7 @@ pub(crate) fn shared_both(
 }
 
 /// An operand's tree, and the nodes on its longest path.
-pub(crate) fn tall(alloc: Global, operand: Operand) -> Result<Tall, AllocError>
+pub fn tall(alloc: Global, operand: Operand) -> Result<Tall, AllocError>
     ensures { IfOk result (λ x. x ≡ operands.tall operand) }
 {
     let height = operand.height;
@@ -121,7 +122,7 @@ fn place_of(alloc: Global, lvalue: Lvalue) -> Result<Place, AllocError>
 }
 
 /// What is written to as a part of a tree.
-pub(crate) fn shared_place(alloc: Global, lvalue: Lvalue) -> Result<Shared<Place>, AllocError>
+pub fn shared_place(alloc: Global, lvalue: Lvalue) -> Result<Shared<Place>, AllocError>
     ensures { IfOk result (λ p. p ≡ operands.place_of lvalue) }
 {
     let place = place_of(alloc, lvalue)?;
@@ -142,7 +143,7 @@ fn lvalue_by(line: u32, form: Form, height: u32) -> Option<Lvalue>
 }
 
 /// The operand as something to write to, if it is.
-pub(crate) fn lvalue_of(operand: Operand) -> Option<Lvalue>
+pub fn lvalue_of(operand: Operand) -> Option<Lvalue>
     ensures { result ≡ operands.lvalue_of operand }
 {
     lvalue_by(operand.line, operand.form, operand.height)
@@ -176,14 +177,14 @@ fn post_by(line: u32, form: Form, height: u32) -> Option<Lvalue>
 }
 
 /// The operand as something that `++` or `--` may stand after, if it is.
-pub(crate) fn post_lvalue(operand: Operand) -> Option<Lvalue>
+pub fn post_lvalue(operand: Operand) -> Option<Lvalue>
     ensures { result ≡ operands.post_lvalue operand }
 {
     post_by(operand.line, operand.form, operand.height)
 }
 
 /// How many nodes what is written to has: a name that is only written has none.
-pub(crate) fn written(operator: AssignOperator, target: &Target, height: u32) -> u32
+pub fn written(operator: AssignOperator, target: &Target, height: u32) -> u32
     ensures gives { result ≡ nodes_written operator (operands.place_kind target.now) height }
     ensures within { result ≤ height }
 {

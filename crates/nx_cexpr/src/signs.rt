@@ -6,7 +6,7 @@ use nx_ctree::{AssignOperator, BinaryOperator, Sign, StepOperator};
 use nx_grammar::Kind;
 
 /// Whether an expression begins with this sign.
-pub(crate) fn begins(sign: Sign) -> bool
+pub fn begins(sign: Sign) -> bool
     ensures { result ≡ begins_expression sign }
 {
     matches!(
@@ -28,7 +28,7 @@ pub(crate) fn begins(sign: Sign) -> bool
 }
 
 /// Whether a primary expression that is no name begins with this sign.
-pub(crate) fn begins_primary(sign: Sign) -> bool
+pub fn begins_primary(sign: Sign) -> bool
     ensures { result ≡ primary_begins sign }
 {
     matches!(
@@ -38,7 +38,7 @@ pub(crate) fn begins_primary(sign: Sign) -> bool
 }
 
 /// Whether a unary expression may begin with this sign before its operand.
-pub(crate) fn is_prefix(sign: Sign) -> bool
+pub fn is_prefix(sign: Sign) -> bool
     ensures { result ≡ stands_before sign }
 {
     matches!(
@@ -56,13 +56,14 @@ pub(crate) fn is_prefix(sign: Sign) -> bool
 }
 
 /// What is wrong with a token where no node fits.
-pub(crate) fn full_fault(begins: bool) -> Kind
+pub fn full_fault(begins: bool) -> Kind
     ensures { result ≡ fault_where_full begins }
 {
     if begins { Kind::Limit } else { Kind::Syntax }
 }
 
-pub(crate) fn step_of(sign: Sign) -> Option<StepOperator>
+/// The sign as `++` or `--`.
+pub fn step_of(sign: Sign) -> Option<StepOperator>
     ensures { result ≡ step_named sign }
 {
     match sign {
@@ -72,7 +73,8 @@ pub(crate) fn step_of(sign: Sign) -> Option<StepOperator>
     }
 }
 
-pub(crate) fn assign_of(sign: Sign) -> Option<AssignOperator>
+/// The sign as an assignment.
+pub fn assign_of(sign: Sign) -> Option<AssignOperator>
     ensures { result ≡ assign_named sign }
 {
     match sign {
@@ -114,7 +116,7 @@ fn binary_of(sign: Sign) -> Option<(BinaryOperator, u32)>
 }
 
 /// The operator that this sign is, where it is one of this level.
-pub(crate) fn operator_at(level: u32, sign: Sign) -> Option<BinaryOperator>
+pub fn operator_at(level: u32, sign: Sign) -> Option<BinaryOperator>
     ensures { result ≡ operator_of_level level (binary_named sign) }
 {
     match binary_of(sign) {

@@ -43,7 +43,7 @@ impl<'a> Rest<'a> {
 }
 
 /// Whether a token has this sign.
-pub(crate) fn is_sign(sign: Sign, token: &Signed<'_>) -> bool
+pub fn is_sign(sign: Sign, token: &Signed<'_>) -> bool
     ensures { result ≡ has_sign sign token.now }
 {
     token.sign == sign
@@ -64,7 +64,7 @@ pub fn expect<'a>(
 }
 
 /// The tokens after one of this sign, where it stands next.
-pub(crate) fn after<'a>(tokens: &'a [Signed<'a>], sign: Sign) -> Option<&'a [Signed<'a>]>
+pub fn after<'a>(tokens: &'a [Signed<'a>], sign: Sign) -> Option<&'a [Signed<'a>]>
     ensures gives { option_map (λ x. x.now) result ≡ after_first (has_sign sign) tokens.now }
     ensures shorter { IfSome result (λ x. length x.now < length tokens.now) }
 {
@@ -75,7 +75,7 @@ pub(crate) fn after<'a>(tokens: &'a [Signed<'a>], sign: Sign) -> Option<&'a [Sig
 }
 
 /// What was read, where a token stands after it.
-pub(crate) fn closed<'a, T: Drop>(
+pub fn closed<'a, T: Drop>(
     read: T,
     tokens: &'a [Signed<'a>],
 ) -> Result<(T, &'a [Signed<'a>]), ParseStop<'a>>
@@ -90,7 +90,7 @@ pub(crate) fn closed<'a, T: Drop>(
 }
 
 /// Whether there is a node further down.
-pub(crate) fn has_node(depth: u32) -> bool
+pub fn has_node(depth: u32) -> bool
     ensures gives { result ≡ has_node_at depth }
     ensures positive { IsTrue result → 1 ≤ depth }
 {
@@ -98,7 +98,7 @@ pub(crate) fn has_node(depth: u32) -> bool
 }
 
 /// Whether what has so many nodes fits further down, beside something else.
-pub(crate) fn goes_down(height: u32, lower: u32) -> bool
+pub fn goes_down(height: u32, lower: u32) -> bool
     ensures gives { result ≡ has_node_at lower && nat_lt height (suc lower) }
     ensures positive { IsTrue result → (1 ≤ lower) × (height ≤ lower) }
 {

@@ -24,26 +24,30 @@ fn value(line: u32, kind: ExprKind, height: u32) -> Operand
     }
 }
 
-pub(crate) fn number(token: &Signed<'_>) -> Operand
+/// A number as an operand (C11 section 6.4.4.1).
+pub fn number(token: &Signed<'_>) -> Operand
     ensures { result ≡ operands.number token.now }
 {
     value(token.line, ExprKind::Number(token.text.number()), 1)
 }
 
-pub(crate) fn character(token: &Signed<'_>) -> Operand
+/// A character constant as an operand (C11 section 6.4.4.4).
+pub fn character(token: &Signed<'_>) -> Operand
     ensures { result ≡ operands.character token.now }
 {
     value(token.line, ExprKind::Char(token.text.character()), 1)
 }
 
-pub(crate) fn text(alloc: Global, token: &Signed<'_>) -> Result<Operand, AllocError>
+/// A string literal as an operand (C11 section 6.4.5).
+pub fn text(alloc: Global, token: &Signed<'_>) -> Result<Operand, AllocError>
     ensures { IfOk result (λ x. x ≡ operands.text token.now) }
 {
     let bytes = token.text.text(alloc)?;
     Ok(value(token.line, ExprKind::Text(bytes), 1))
 }
 
-pub(crate) fn name(alloc: Global, token: &Signed<'_>) -> Result<Operand, AllocError>
+/// A name as an operand, which can be written to (C11 section 6.5.1).
+pub fn name(alloc: Global, token: &Signed<'_>) -> Result<Operand, AllocError>
     ensures { IfOk result (λ x. x ≡ operands.name token.now) }
 {
     let name = Bytes::from_slice(alloc, token.text.bytes())?;
@@ -54,7 +58,8 @@ pub(crate) fn name(alloc: Global, token: &Signed<'_>) -> Result<Operand, AllocEr
     })
 }
 
-pub(crate) fn name_lvalue(alloc: Global, token: &Signed<'_>) -> Result<Lvalue, AllocError>
+/// A name as what is written to.
+pub fn name_lvalue(alloc: Global, token: &Signed<'_>) -> Result<Lvalue, AllocError>
     ensures { IfOk result (λ x. x ≡ operands.name_lvalue token.now) }
 {
     let name = Bytes::from_slice(alloc, token.text.bytes())?;
@@ -65,11 +70,8 @@ pub(crate) fn name_lvalue(alloc: Global, token: &Signed<'_>) -> Result<Lvalue, A
     })
 }
 
-pub(crate) fn paren(
-    alloc: Global,
-    token: &Signed<'_>,
-    inner: Operand,
-) -> Result<Operand, AllocError>
+/// An expression in parentheses, one node more than what is in them (C11 section 6.5.1).
+pub fn paren(alloc: Global, token: &Signed<'_>, inner: Operand) -> Result<Operand, AllocError>
     requires { inner.height ≤ 64 }
     ensures { IfOk result (λ x. x ≡ operands.paren token.now inner) }
 {
@@ -78,7 +80,8 @@ pub(crate) fn paren(
     Ok(value(token.line, ExprKind::Paren(inner), height))
 }
 
-pub(crate) fn no_arguments(alloc: Global) -> Arguments
+/// The arguments of a call without any.
+pub fn no_arguments(alloc: Global) -> Arguments
     ensures { result ≡ operands.no_arguments }
 {
     Arguments {
@@ -87,7 +90,8 @@ pub(crate) fn no_arguments(alloc: Global) -> Arguments
     }
 }
 
-pub(crate) fn first_argument(alloc: Global, argument: Operand) -> Result<Arguments, AllocError>
+/// The arguments of a call with one.
+pub fn first_argument(alloc: Global, argument: Operand) -> Result<Arguments, AllocError>
     ensures { IfOk result (λ x. x ≡ operands.first_argument argument) }
 {
     let height = argument.height;
@@ -96,7 +100,8 @@ pub(crate) fn first_argument(alloc: Global, argument: Operand) -> Result<Argumen
     Ok(Arguments { list, height })
 }
 
-pub(crate) fn next_argument(
+/// One argument more, behind those that were read.
+pub fn next_argument(
     alloc: Global,
     arguments: &mut Arguments,
     argument: Operand,
@@ -110,11 +115,8 @@ pub(crate) fn next_argument(
     Ok(())
 }
 
-pub(crate) fn call(
-    alloc: Global,
-    token: &Signed<'_>,
-    arguments: Arguments,
-) -> Result<Operand, AllocError>
+/// A call of the function that the token names (C11 section 6.5.2.2).
+pub fn call(alloc: Global, token: &Signed<'_>, arguments: Arguments) -> Result<Operand, AllocError>
     requires { arguments.height ≤ 64 }
     ensures { IfOk result (λ x. x ≡ operands.call token.now arguments) }
 {
@@ -123,7 +125,8 @@ pub(crate) fn call(
     Ok(value(token.line, ExprKind::Call(name, arguments.list), height))
 }
 
-pub(crate) fn element(alloc: Global, base: Operand, index: Operand) -> Result<Element, AllocError>
+/// An index into an array or pointer (C11 section 6.5.2.1).
+pub fn element(alloc: Global, base: Operand, index: Operand) -> Result<Element, AllocError>
     requires base { base.height ≤ 64 }
     requires index { index.height ≤ 64 }
     ensures { IfOk result (λ x. x ≡ operands.element base index) }
@@ -158,7 +161,7 @@ fn nothing() -> Expr {
 }
 
 /// What was read so far, taken out to be put into something larger.
-pub(crate) fn take_element(read: &mut Element) -> Element
+pub fn take_element(read: &mut Element) -> Element
     ensures { result ≡ read.old }
 {
     mem::replace(
@@ -173,13 +176,14 @@ pub(crate) fn take_element(read: &mut Element) -> Element
 }
 
 /// What was read so far, taken out to be put into something larger.
-pub(crate) fn take_operand(read: &mut Operand) -> Operand
+pub fn take_operand(read: &mut Operand) -> Operand
     ensures { result ≡ read.old }
 {
     mem::replace(read, value(0, ExprKind::Number(0), 0))
 }
 
-pub(crate) fn element_operand(element: Element) -> Operand
+/// An index as an operand, which can be written to.
+pub fn element_operand(element: Element) -> Operand
     ensures { result ≡ operands.element_operand element }
 {
     Operand {
@@ -189,7 +193,8 @@ pub(crate) fn element_operand(element: Element) -> Operand
     }
 }
 
-pub(crate) fn element_lvalue(element: Element) -> Lvalue
+/// An index as what is written to.
+pub fn element_lvalue(element: Element) -> Lvalue
     ensures { result ≡ operands.element_lvalue element }
 {
     Lvalue {
@@ -216,7 +221,8 @@ fn unary_form(alloc: Global, operator: UnaryOperator, part: Expr) -> Result<Form
     }
 }
 
-pub(crate) fn unary_operand(
+/// An operator before an operand (C11 section 6.5.3.3); after `*` it can be written to.
+pub fn unary_operand(
     alloc: Global,
     token: &Signed<'_>,
     operator: UnaryOperator,
@@ -232,11 +238,8 @@ pub(crate) fn unary_operand(
     Ok(Operand { line, form, height })
 }
 
-pub(crate) fn deref_lvalue(
-    alloc: Global,
-    token: &Signed<'_>,
-    part: Operand,
-) -> Result<Lvalue, AllocError>
+/// What a pointer leads to, as what is written to (C11 section 6.5.3.2).
+pub fn deref_lvalue(alloc: Global, token: &Signed<'_>, part: Operand) -> Result<Lvalue, AllocError>
     requires { part.height ≤ 64 }
     ensures { IfOk result (λ x. x ≡ operands.deref_lvalue token.now part) }
 {
@@ -250,11 +253,8 @@ pub(crate) fn deref_lvalue(
     })
 }
 
-pub(crate) fn address(
-    alloc: Global,
-    token: &Signed<'_>,
-    element: Element,
-) -> Result<Operand, AllocError>
+/// The address of an element (C11 section 6.5.3.2).
+pub fn address(alloc: Global, token: &Signed<'_>, element: Element) -> Result<Operand, AllocError>
     ensures { IfOk result (λ x. x ≡ operands.address token.now element) }
 {
     let height = element.height;
@@ -263,7 +263,8 @@ pub(crate) fn address(
     Ok(value(token.line, ExprKind::AddressOf(base, index), height))
 }
 
-pub(crate) fn before(
+/// `++` or `--` before what is written to (C11 section 6.5.3.1).
+pub fn before(
     alloc: Global,
     token: &Signed<'_>,
     operator: StepOperator,
@@ -277,11 +278,8 @@ pub(crate) fn before(
     Ok(value(token.line, ExprKind::Before(operator, place), height))
 }
 
-pub(crate) fn after(
-    alloc: Global,
-    operator: StepOperator,
-    lvalue: Lvalue,
-) -> Result<Operand, AllocError>
+/// `++` or `--` after what is written to (C11 section 6.5.2.4).
+pub fn after(alloc: Global, operator: StepOperator, lvalue: Lvalue) -> Result<Operand, AllocError>
     requires { lvalue.height ≤ 64 }
     ensures { IfOk result (λ x. x ≡ operands.after operator lvalue) }
 {
@@ -291,7 +289,8 @@ pub(crate) fn after(
     Ok(value(line, ExprKind::After(operator, place), height))
 }
 
-pub(crate) fn cast(
+/// A cast, to a pointer where a `*` stood (C11 section 6.5.4).
+pub fn cast(
     alloc: Global,
     token: &Signed<'_>,
     base: Base,
@@ -306,7 +305,8 @@ pub(crate) fn cast(
     Ok(value(token.line, ExprKind::Cast(base, pointer, part), height))
 }
 
-pub(crate) fn size_of_name(
+/// `sizeof` of a name (C11 section 6.5.3.4).
+pub fn size_of_name(
     alloc: Global,
     token: &Signed<'_>,
     named: &Signed<'_>,
@@ -317,13 +317,15 @@ pub(crate) fn size_of_name(
     Ok(value(token.line, ExprKind::SizeOfName(name), 1))
 }
 
-pub(crate) fn size_of_type(token: &Signed<'_>, base: Base) -> Operand
+/// `sizeof` of a type (C11 section 6.5.3.4).
+pub fn size_of_type(token: &Signed<'_>, base: Base) -> Operand
     ensures { result ≡ operands.size_of_type token.now base }
 {
     value(token.line, ExprKind::SizeOfType(base), 1)
 }
 
-pub(crate) fn binary(
+/// An operator between two operands (C11 sections 6.5.5 to 6.5.14).
+pub fn binary(
     alloc: Global,
     operator: BinaryOperator,
     left: Operand,
@@ -352,7 +354,8 @@ fn conditional_kind(
     Ok(ExprKind::Conditional(test, then, otherwise))
 }
 
-pub(crate) fn conditional(
+/// A condition and the two expressions that it chooses from (C11 section 6.5.15).
+pub fn conditional(
     alloc: Global,
     test: Operand,
     then: Operand,
@@ -369,7 +372,8 @@ pub(crate) fn conditional(
     Ok(value(line, kind, height))
 }
 
-pub(crate) fn assign(
+/// An assignment to what is written to (C11 section 6.5.16).
+pub fn assign(
     alloc: Global,
     operator: AssignOperator,
     lvalue: Lvalue,

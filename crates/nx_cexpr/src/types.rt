@@ -8,7 +8,7 @@ use nx_ctree::{Base, Sign, Signed};
 use nx_grammar::Kind;
 
 /// Whether a base type begins with this sign.
-pub(crate) fn begins_base(sign: Sign) -> bool
+pub fn begins_base(sign: Sign) -> bool
     ensures { result ≡ base_begins sign }
 {
     matches!(sign, Sign::Int | Sign::CharWord | Sign::Const)
