@@ -1,0 +1,7 @@
+pub mod Turns
+mod Prices
+mod Demands
+mod Below
+mod Surviving
+mod Stretches
+mod Rows
