@@ -1,0 +1,16 @@
+pub mod Changes
+pub mod Walking
+pub mod ShortTexts
+pub mod Holding
+pub mod FileWalk
+pub mod TreeWalk
+pub mod EnvironmentWalk
+pub mod QueueWalk
+pub mod GroupWalk
+pub mod StepWalk
+pub mod Standings
+pub mod FewWalk
+pub mod PlaceWalk
+pub mod NearWalk
+pub mod ShortWalk
+pub mod Reached
