@@ -72,7 +72,7 @@ near time ticks e d q =
 module _ (k : KernelState) (c : Caller) where
   pub sleep_made : AreNumbered k.sched.threads → (ticks : ℕ) → Made k (sleep_row k c ticks)
   unfolding sleep_row
-  sleep_made h ticks = test k (is_negative ticks) _ _ (λ t. fails k c errno.Einval) (λ t. test k (ticks == 0) _ _ (λ u. same k _ refl) (λ u. blocks k c h wait.Sleep (Some (k.time + ticks)) (near k.time ticks t)))
+  sleep_made h ticks = test k (is_negative ticks) _ _ (λ t. fails k c errno.Einval) (λ t. test k (ticks == 0) _ _ (λ u. same k _ refl) (λ u. blocks k c h wait.Sleep (Some (k.time + ticks)) (near k.time ticks t) tt))
 
   pub ticks_made : Made k (ticks_row k c)
   unfolding ticks_row

@@ -142,7 +142,7 @@ change_grows (Wakes {k = k} t slot s r) =
     threads_change 0 (counted k) _
     (let w = waiting_woken (woken k.sched.moments) (λ u. refl) t k.sched.threads slot s r in omega (arith, w))
     (let n = live_changed t.number (woken k.sched.moments) k.sched.threads in omega (arith, n))
-change_grows (Waits {k = k} thread asked for deadline numbered near) =
+change_grows (Waits {k = k} thread asked for deadline numbered near awaits) =
     threads_change 2 (counted k) _
     (let w = waiting_blocked thread (λ t. record t { doing = begin_wait k.sched.moments for deadline; asked = asked }) k.sched.threads numbered in omega (arith, w))
     (let n = live_changed thread (λ t. record t { doing = begin_wait k.sched.moments for deadline; asked = asked }) k.sched.threads in omega (arith, n))
@@ -161,7 +161,7 @@ change_grows (ThreadBegins {k = k} slot group priority free few) = record {
   children = λ h. omega (arith, h);
   results = λ h. (let s = one_more k.sched.threads slot (begun k group priority) in omega (arith, h, s));
 }
-change_grows (GroupBegins {k = k} c slot program priority arguments free few there short) = record {
+change_grows (GroupBegins {k = k} c slot program priority arguments free few there short empty) = record {
   made = (let w = waiting_begun k.sched.threads slot (begun k 0 priority) refl in omega (arith, w));
   given = λ h. below k.numbers few;
   ends = λ h. (let s = one_more k.groups slot (group_begun k c program arguments) in omega (arith, h, s));
@@ -186,14 +186,14 @@ change_grows (Vanishes {k = k} group) = record {
   children = λ h. h;
   results = λ h. (let n = fewer_mapped (without_group group) (none_of_group group) k.sched.threads in let f = shorter (λ (v : ThreadValue). not (v.group == group)) k.values in omega (arith, h, n, f));
 }
-change_grows (GroupGoes {k = k} place g e there) = record {
+change_grows (GroupGoes {k = k} place g e there none) = record {
   made = omega arith;
   given = λ h. h;
   ends = λ h. (let n = group_gone k.groups place g there in let a = length-append k.ended (e ∷ []) in omega (arith, h, n, a));
   children = λ h. (let n = group_gone k.groups place g there in let f = shorter (λ (c : Code). not (c.parent == g.number)) k.codes in omega (arith, h, n, f));
   results = λ h. h;
 }
-change_grows (GroupLeaves {k = k} place g e code there) = record {
+change_grows (GroupLeaves {k = k} place g e code there none) = record {
   made = omega arith;
   given = λ h. h;
   ends = λ h. (let n = group_gone k.groups place g there in let a = length-append k.ended (e ∷ []) in omega (arith, h, n, a));

@@ -1,4 +1,5 @@
 -- The changes of which calls on descriptors are made.
+use Rattle.std.proofs.Common.{Bool}
 use Rattle.std.proofs.Common.{◌≡◌, ℕ, ◌≤◌, ◌==◌, ◌&&◌, true, false, List, [], ◌∷◌, length, take, min, Option, Some, None, Ok, Err, refl, arith, length-append, length-take}
 use Rattle.std.specs.Prelude.{not, nat_lt, nat_le, Result, slice_get, ◌-◌}
 use Rattle.std.specs.List.{position_from}
@@ -19,7 +20,32 @@ use Rattle.nx_ksys.specs.FileCalls.{Written, written_at, write_place, file_writt
 use Rattle.nx_kbounds.proofs.Changes.{Same, Shares, Seeks, Writes, Empties, FileBegins, Prints, Reads}
 use Rattle.nx_kbounds.proofs.Walking.{Made, quiet, followed, test, test_change, fails, same, closed_change, opened_stands, describes}
 use Rattle.nx_kbounds.proofs.ShortTexts.{resolved_short, written_short}
-use Rattle.nx_kbounds.proofs.Holding.{descriptor_holds, still_holds}
+use Rattle.std.proofs.Common.{inl, inr, ◌<◌, ap, ◌∙◌, ⊎_elim}
+use Rattle.std.specs.Prelude.{if◌then◌else◌}
+use Rattle.std.proofs.lemmas.Bool.Decides.{nat_tests}
+use Rattle.nx_ksys.specs.Bounds.{file_place}
+use Rattle.nx_ksys.proofs.Standing.{free_place}
+use Rattle.nx_kbounds.proofs.Changes.{Leads}
+use Rattle.nx_kbounds.proofs.Naming.{named_leads, new_stands, still_one}
+use Rattle.nx_kbounds.proofs.Holding.{descriptor_holds, still_holds, free_is_closed, closed_groups, closed_own}
+
+-- what an emptied file leaves
+emptied_groups : (k : KernelState) (flags place : ℕ) → (emptied k flags place).groups ≡ k.groups
+emptied_groups k flags place = by_test (truncates flags)
+  where
+    by_test : (b : Bool) → (let l : KernelState = if b then record k { tree = with_file k.tree place [] } else k in l).groups ≡ k.groups
+    by_test true = refl
+    by_test false = refl
+
+emptied_leads : (k : KernelState) (flags place : ℕ) → Leads k (target.File place) → Leads (emptied k flags place) (target.File place)
+emptied_leads k flags place h = by_test (truncates flags)
+  where
+    by_test : (b : Bool) → Leads (if b then record k { tree = with_file k.tree place [] } else k) (target.File place)
+    by_test true = ⊎_elim (λ e. inl (still_one k.tree.files place [] e)) (λ l. inr l) h
+    by_test false = h
+
+below : (n : ℕ) → nat_le per_group n ≡ false → n < per_group
+below n e = grind (arith, nat_tests)
 
 module _ (k : KernelState) (c : Caller) where
   pub write_made : (fd : ℕ) (bytes : List ℕ) → Made k (write_row k c fd bytes)
@@ -75,22 +101,23 @@ module _ (k : KernelState) (c : Caller) where
       by_open room None e = fails k c errno.Ebadf
       by_open room (Some o) e = test k (is_stream o.description.target && may_read o.description.flags) _ _ (λ t. by_target o (opened_stands k c.place fd o e) room o.description.target) (λ t. fails k c errno.Ebadf)
 
-  pub open_made : (text : List ℕ) (flags : ℕ) → Made k (open_row k c text flags)
+  pub open_made : flat (slice_get k.groups c.place) ≡ Some c.group → (text : List ℕ) (flags : ℕ) → Made k (open_row k c text flags)
   unfolding open_row
-  open_made text flags = test k _ _ _ (λ t. fails k c errno.Einval) (λ t. by_path (resolved k.tree.entries c.group.directory text) refl)
+  open_made lives text flags = test k _ _ _ (λ t. fails k c errno.Einval) (λ t. by_path (resolved k.tree.entries c.group.directory text) refl)
     where
       by_kind : (path : List ℕ) (n : Node) → node_at k.tree.entries path ≡ Some n → (kind : NodeKind) → n.kind ≡ kind → Made k (open_kind k c flags kind)
       by_kind path n e node.Directory f = fails k c errno.Eisdir
       by_kind path n e (node.File place) f =
-          describes k (emptied k flags place) c (target.File place) flags (test_change k (truncates flags) _ _ (λ t. Empties path n place e f) (λ t. Same))
-      by_kind path n e node.Console f = describes k k c target.Console flags Same
-      by_kind path n e node.Null f = describes k k c target.Null flags Same
+          describes k (emptied k flags place) c (target.File place) flags (ap (λ gs. flat (slice_get gs c.place)) (emptied_groups k flags place) ∙ lives)
+          (emptied_leads k flags place (inr (named_leads file_place k.tree.entries path n place e (ap file_place f)))) (test_change k (truncates flags) _ _ (λ t. Empties path n place e f) (λ t. Same))
+      by_kind path n e node.Console f = describes k k c target.Console flags lives tt Same
+      by_kind path n e node.Null f = describes k k c target.Null flags lives tt Same
       by_kind path n e (node.Program place) f = fails k c errno.Einval
       by_kind path n e (node.Queue place) f = fails k c errno.Einval
 
       by_place : (path : List ℕ) → length path ≤ 255 → nat_le k.limits.objects (objects k) ≡ false → (place : Option ℕ) → position_from is_none 0 k.tree.files ≡ place → Made k (create_at k c flags path place)
       by_place path le room None e = fails k c errno.Enospc
-      by_place path le room (Some place) e = describes k (with_new_file k path place) c (target.File place) flags (FileBegins path place e le room)
+      by_place path le room (Some place) e = describes k (with_new_file k path place) c (target.File place) flags lives (inl (new_stands k.tree.files place [] (free_place k.tree.files place e))) (FileBegins path place e le room)
 
       creates_one : (path : List ℕ) → length path ≤ 255 → Made k (create k c flags path)
       creates_one path le =
@@ -136,24 +163,25 @@ module _ (k : KernelState) (c : Caller) where
       by_open None e = fails k c errno.Ebadf
       by_open (Some o) e = by_target o (opened_stands k c.place fd o e) o.description.target
 
-  pub dup_made : (fd : ℕ) → Made k (dup_row k c fd)
+  pub dup_made : flat (slice_get k.groups c.place) ≡ Some c.group → (fd : ℕ) → Made k (dup_row k c fd)
   unfolding dup_row
-  dup_made fd = by_place (description_at k.descriptors c.place fd) refl
+  dup_made lives fd = by_place (description_at k.descriptors c.place fd) refl
     where
-      by_descriptor : (place : ℕ) → is_held place k.descriptors ≡ true → (new : Option ℕ) → Made k (dup_at k c place new)
-      by_descriptor place held None = fails k c errno.Emfile
-      by_descriptor place held (Some new) = quiet k _ (Shares c.place new place held)
+      by_descriptor : (place : ℕ) → is_held place k.descriptors ≡ true → (new : Option ℕ) → free_descriptor k.descriptors c.place ≡ new → Made k (dup_at k c place new)
+      by_descriptor place held None e = fails k c errno.Emfile
+      by_descriptor place held (Some new) e = let f = free_is_closed k.descriptors c.place new e in quiet k _ (Shares c.place new place held (record { group = c.group; lives = lives; few = f.0; closed = ap flat f.1 }))
 
       by_place : (place : Option ℕ) → description_at k.descriptors c.place fd ≡ place → Made k (dup_of k c place)
       by_place None e = fails k c errno.Ebadf
-      by_place (Some place) e = by_descriptor place (descriptor_holds k.descriptors c.place fd place e) (free_descriptor k.descriptors c.place)
+      by_place (Some place) e = by_descriptor place (descriptor_holds k.descriptors c.place fd place e) (free_descriptor k.descriptors c.place) refl
 
-  pub dup2_made : (first second : ℕ) → Made k (dup2_row k c first second)
+  pub dup2_made : flat (slice_get k.groups c.place) ≡ Some c.group → (first second : ℕ) → Made k (dup2_row k c first second)
   unfolding dup2_row
-  dup2_made first second = by_place (description_at k.descriptors c.place first) refl
+  dup2_made lives first second = by_place (description_at k.descriptors c.place first) refl
     where
       by_place : (place : Option ℕ) → description_at k.descriptors c.place first ≡ place → Made k (dup2_of k c first second place)
       by_place None e = fails k c errno.Ebadf
       by_place (Some place) e =
           test k (nat_le per_group second) _ _ (λ t. fails k c errno.Ebadf) (λ t. test k (first == second) _ _ (λ u. same k _ refl)
-          (λ u. quiet k _ (followed k (closed k c.place second) _ (closed_change k c.place second) (Shares c.place second place (still_holds k c.place first second place e u)))))
+          (λ u. quiet k _ (followed k (closed k c.place second) _ (closed_change k c.place second) (Shares c.place second place (still_holds k c.place first second place e u)
+          (let few = below second t in record { group = c.group; lives = ap (λ gs. flat (slice_get gs c.place)) (closed_groups k c.place second) ∙ lives; few = few; closed = closed_own k c.place second few })))))

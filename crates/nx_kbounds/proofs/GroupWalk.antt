@@ -1,5 +1,8 @@
 -- The changes of which ends, and calls on groups and threads, are made.
-use Rattle.std.proofs.Common.{◌≡◌, ℕ, zero, suc, ◌+◌, ◌≤◌, ◌%◌, ◌==◌, ◌&&◌, ◌||◌, Bool, true, false, List, [], ◌∷◌, length, map, Option, Some, None, Ok, Err, refl, ap, ◌∙◌}
+use Rattle.std.proofs.Common.{sym}
+use Rattle.nx_ksys.proofs.Standing.{none_some}
+use Rattle.std.proofs.Common.{◌<◌, arith, zero, suc}
+use Rattle.std.proofs.Common.{◌≡◌, ℕ, zero, suc, ◌≤◌, ◌%◌, ◌==◌, ◌&&◌, ◌||◌, Bool, true, false, List, [], ◌∷◌, length, map, Option, Some, None, Ok, Err, refl, ap, ◌∙◌}
 use Rattle.std.specs.Prelude.{not, nat_le, nat_lt, filter, Result, slice_get, if◌then◌else◌}
 use Rattle.std.specs.List.{find}
 use Rattle.std.proofs.lemmas.Bool.{and_parts}
@@ -9,9 +12,6 @@ use Rattle.nx_ksys.specs.Telling.{minus_one}
 use Rattle.nx_ksys.specs.declared.node.Node.{Node}
 use Rattle.nx_ksys.specs.declared.node.NodeKind.{NodeKind}
 use Rattle.nx_ksys.specs.declared.node.NodeKind.TheVariants as node
-use Rattle.nx_ksys.specs.declared.node.Open.{Open}
-use Rattle.nx_ksys.specs.declared.node.Target.{Target}
-use Rattle.nx_ksys.specs.declared.node.Target.TheVariants as target
 use Rattle.nx_ksys.specs.declared.thread.Thread.{Thread}
 use Rattle.nx_ksys.specs.declared.thread.Wait.{Wait}
 use Rattle.nx_ksys.specs.declared.thread.Wait.TheVariants as wait
@@ -19,7 +19,7 @@ use Rattle.nx_ksys.specs.declared.thread.Search.TheVariants as search
 use Rattle.nx_ksys.specs.Threads.{Schedule, flat, awaited, is_for_child, comes_before, first_of, free_slot, thread_of, wake, with_error}
 use Rattle.nx_ksys.specs.State.{Group, Code, ThreadValue, Ending, KernelState}
 use Rattle.nx_ksys.specs.Paths.{resolved, node_at, last_part}
-use Rattle.nx_ksys.specs.Descriptors.{set_descriptor, is_held, description_at, swept_target, without_open, without_idle, released, closed_as, closed, closed_from}
+use Rattle.nx_ksys.specs.Descriptors.{without_idle, closed_from}
 use Rattle.nx_ksys.specs.Answers.{Caller, is_negative, with_threads}
 use Rattle.nx_ksys.specs.Ends.{WithReplies, has_child, has_any_child, is_code, is_any_code, is_lost_wait, is_lost, first_lost, refuse_first, refuse_lost, and_lost, vanished, without_descriptors, without_group, kept_messages, left_alone, recorded, hand_over, told_parent, end_of, end_group, exit_row, gone, hand_value, thread_exit_row}
 use Rattle.nx_ksys.specs.GroupCalls.{is_ended, spawn_priority, most_numbers, arguments_of, spawn_at, spawn_kind, spawn_node, spawn_path, spawn_row, wait_for, wait_child, waitpid_row, arg_out, arg_row, nth_group, status_of, ps_out, ps_row}
@@ -27,45 +27,36 @@ use Rattle.nx_ksys.specs.ThreadCalls.{set_priority, setpriority_row, yield_row, 
 use Rattle.nx_ksys.specs.Soundness.{Stands}
 use Rattle.nx_ksys.proofs.Waking.{best_found, first_stands, child_waits, thread_waits, awaited_waits}
 use Rattle.nx_kbounds.proofs.Changes.{Change, Same, Fails, Wakes, Prioritises, Yields, ThreadBegins, GroupBegins, ThreadGoes, ThreadLeaves, Vanishes, Idles, GroupGoes, GroupLeaves, CodeTaken, ValueTaken, AreNumbered}
+use Rattle.nx_kbounds.proofs.Holding.{all_closed_groups, all_closed_own}
+use Rattle.nx_kbounds.specs.Leading.{WaitStands}
+use Rattle.nx_ksys.specs.Soundness.{AreSound, IsSound}
+use Rattle.nx_ksys.proofs.Starting.{no_group}
+use Rattle.nx_ksys.proofs.Standing.{free_place, within}
+use Rattle.nx_kbounds.proofs.Changes.{AreClosed}
 use Rattle.nx_kbounds.proofs.Walking.{Made, quiet, once, followed, test, fails, same, texts, blocks, never, all_closed_change}
 use Rattle.nx_kbounds.proofs.ShortTexts.{resolved_short, arguments_short}
 
 -- ---- what a closing leaves alone
 
-target_groups : (k : KernelState) (t : Target) → (swept_target k t).groups ≡ k.groups
-target_groups k (target.File place) = refl
-target_groups k target.Console = refl
-target_groups k target.Null = refl
-target_groups k (target.Queue place) = refl
-target_groups k (target.Semaphore place) = refl
-
-released_groups : (k : KernelState) (place : ℕ) → (released k place).groups ≡ k.groups
-unfolding released
-released_groups k place = by_test (is_held place k.descriptors) (flat (slice_get k.opens place))
-  where
-    by_open : (o : Option Open) → (without_open k place o).groups ≡ k.groups
-    by_open None = refl
-    by_open (Some o) = target_groups _ o.target
-
-    by_test : (b : Bool) (o : Option Open) → (let l : KernelState = if b then k else without_open k place o in l).groups ≡ k.groups
-    by_test true o = refl
-    by_test false o = by_open o
-
-closed_groups : (k : KernelState) (place fd : ℕ) → (closed k place fd).groups ≡ k.groups
-unfolding closed
-closed_groups k place fd = by_place (description_at k.descriptors place fd)
-  where
-    by_place : (d : Option ℕ) → (closed_as k place fd d).groups ≡ k.groups
-    by_place None = refl
-    by_place (Some d) = released_groups (record k { descriptors = set_descriptor k.descriptors place fd None }) d
-
-all_closed_groups : (n fd place : ℕ) (k : KernelState) → (closed_from n fd place k).groups ≡ k.groups
-all_closed_groups zero fd place k = refl
-all_closed_groups (suc n) fd place k = all_closed_groups n (fd + 1) place (closed k place fd) ∙ closed_groups k place fd
-
 vanished_groups : (group : ℕ) (k : KernelState) → (vanished group k).groups ≡ k.groups
 unfolding vanished without_idle
 vanished_groups group k = refl
+
+-- ---- places
+
+-- where no thread has a slot, no group has its place
+free_group : (ts : List (Option Thread)) (gs : List (Option Group)) (num slot : ℕ) → AreSound ts gs num → slice_get ts slot ≡ Some None → slice_get gs slot ≡ Some None
+free_group ts gs num slot sound e = by_group (slice_get gs slot) refl (some_at gs slot (let lt = within ts slot None e in let same = sound.slots in omega (arith, lt, same)))
+  where
+    some_at : {A : Type 0} (xs : List A) (p : ℕ) → p < length xs → (x : A) × (slice_get xs p ≡ Some x)
+    some_at [] p lt = absurd (omega (arith, lt))
+    some_at (x ∷ xs) zero lt = (x, refl)
+    some_at (x ∷ xs) (suc p) lt = some_at xs p (omega (arith, lt))
+
+    by_group : (o : Option (Option Group)) → slice_get gs slot ≡ o → (x : Option Group) × (slice_get gs slot ≡ Some x) → slice_get gs slot ≡ Some None
+    by_group None f x = absurd (none_some x.0 (sym f ∙ x.1))
+    by_group (Some None) f x = f
+    by_group (Some (Some g)) f x = absurd (no_group ts gs num slot sound e slot g f refl)
 
 -- ---- ends
 
@@ -94,22 +85,22 @@ and_lost_change : (k : KernelState) (parent : ℕ) (told : WithReplies) → Chan
 and_lost_change k parent told a = followed k told.to _ a (lost_change told.to.groups told.to.codes parent (length told.to.sched.threads) told.to)
 
 -- the group is gone, and its parent is told
-told_change : (k : KernelState) (place : ℕ) (g : Group) (e : Ending) (code : Code) → flat (slice_get k.groups place) ≡ Some g → Change 0 k (told_parent code (recorded e (left_alone place g.number k))).to
+told_change : (k : KernelState) (place : ℕ) (g : Group) (e : Ending) (code : Code) → flat (slice_get k.groups place) ≡ Some g → AreClosed place k.descriptors → Change 0 k (told_parent code (recorded e (left_alone place g.number k))).to
 unfolding told_parent
-told_change k place g e code there = by_parent (code.parent == 0) (first_of (search.Parent code.parent code.child) m.sched.threads) refl
+told_change k place g e code there none = by_parent (code.parent == 0) (first_of (search.Parent code.parent code.child) m.sched.threads) refl
   where
     m : KernelState
     m = recorded e (left_alone place g.number k)
 
     handed : (t : Option Thread) → first_of (search.Parent code.parent code.child) m.sched.threads ≡ t → Change 0 k (hand_over m code t).to
-    handed None f = GroupLeaves place g e code there
+    handed None f = GroupLeaves place g e code there none
     handed (Some t) f =
         let s = first_stands (search.Parent code.parent code.child) m.sched.threads t f in
         let both = and_parts (t.group == code.parent) (is_for_child code.child (awaited t.doing)) s.passes in
-        followed k m _ (GroupGoes place g e there) (Wakes t s.slot s.stands (child_waits code.child t.doing both.1))
+        followed k m _ (GroupGoes place g e there none) (Wakes t s.slot s.stands (child_waits code.child t.doing both.1))
 
     by_parent : (b : Bool) (t : Option Thread) → first_of (search.Parent code.parent code.child) m.sched.threads ≡ t → Change 0 k (let told : WithReplies = if b then record { to = m; replies = [] } else and_lost code.parent (hand_over m code t) in told).to
-    by_parent true t f = GroupGoes place g e there
+    by_parent true t f = GroupGoes place g e there none
     by_parent false t f = and_lost_change k code.parent (hand_over m code t) (handed t f)
 
 vanished_change : (group : ℕ) (k : KernelState) → Change 0 k (vanished group k)
@@ -128,7 +119,7 @@ end_change k place code = by_group (flat (slice_get k.groups place)) refl
         let d = closed_from 32 0 place v in
         let there : flat (slice_get d.groups place) ≡ Some g = ap (λ gs. flat (slice_get gs place)) (all_closed_groups 32 0 place v ∙ vanished_groups g.number k) ∙ e in
         followed k d _ (followed k v d (vanished_change g.number k) (all_closed_change 32 0 place v))
-        (told_change d place g (record { pid = g.number; name = g.program; code = code }) (record { parent = g.parent; child = g.number; code = code }) there)
+        (told_change d place g (record { pid = g.number; name = g.program; code = code }) (record { parent = g.parent; child = g.number; code = code }) there (λ fd few. all_closed_own 32 0 place v fd (omega arith) (omega (arith, few)) few))
 
 module _ (k : KernelState) (c : Caller) where
   pub exit_made : (value : ℕ) → Made k (exit_row k c value)
@@ -148,15 +139,15 @@ module _ (k : KernelState) (c : Caller) where
 
   -- ---- groups
 
-  pub spawn_made : flat (slice_get k.groups c.place) ≡ Some c.group → (path text : List ℕ) (word : ℕ) → length text ≤ 260 → Made k (spawn_row k c path text word)
+  pub spawn_made : IsSound k → flat (slice_get k.groups c.place) ≡ Some c.group → (path text : List ℕ) (word : ℕ) → length text ≤ 260 → Made k (spawn_row k c path text word)
   unfolding spawn_row
-  spawn_made there path text word le =
+  spawn_made sound there path text word le =
       test k (not (is_ended text) || nat_lt 255 word) _ _ (λ t. fails k c errno.Einval) (λ t. by_path (spawn_priority word) (resolved k.tree.entries c.group.directory path) refl)
     where
       by_slot : (program priority : ℕ) (at : List ℕ) → length at ≤ 255 → (slot : Option ℕ) → free_slot k.sched.threads ≡ slot → Made k (spawn_at k c program priority (last_part [] at ∷ arguments_of text) slot)
       by_slot program priority at short None e = fails k c errno.Eagain
       by_slot program priority at short (Some slot) e =
-          test k (nat_le most_numbers k.numbers) _ _ (λ t. fails k c errno.Eagain) (λ t. once k _ (GroupBegins c slot program priority (last_part [] at ∷ arguments_of text) e t there (arguments_short at text short le)))
+          test k (nat_le most_numbers k.numbers) _ _ (λ t. fails k c errno.Eagain) (λ t. once k _ (GroupBegins c slot program priority (last_part [] at ∷ arguments_of text) e t there (arguments_short at text short le) (free_group k.sched.threads k.groups k.numbers slot sound (free_place k.sched.threads slot e))))
 
       by_kind : (at : List ℕ) → length at ≤ 255 → (priority : ℕ) (n : NodeKind) → Made k (spawn_kind k c at text priority n)
       by_kind at short priority node.Directory = fails k c errno.Einval
@@ -178,16 +169,16 @@ module _ (k : KernelState) (c : Caller) where
   unfolding waitpid_row
   waitpid_made numbered pid option =
       test k (pid == 0 || (is_negative pid && not (pid == minus_one)) || nat_lt 1 option) _ _ (λ t. fails k c errno.Einval)
-      (λ t. test k (pid == minus_one) _ _ (λ u. by_code wait.AnyChild (has_any_child k.groups k.codes c.group.number) (find (is_any_code c.group.number) k.codes))
-      (λ u. by_code (wait.Child pid) (has_child k.groups k.codes c.group.number pid) (find (is_code c.group.number pid) k.codes)))
+      (λ t. test k (pid == minus_one) _ _ (λ u. by_code wait.AnyChild tt (has_any_child k.groups k.codes c.group.number) (find (is_any_code c.group.number) k.codes))
+      (λ u. by_code (wait.Child pid) tt (has_child k.groups k.codes c.group.number pid) (find (is_code c.group.number pid) k.codes)))
     where
-      waiting : (for : Wait) → Made k (wait_for k c for option)
-      waiting for = test k (option == 1) _ _ (λ t. same k _ refl) (λ t. blocks k c numbered for None (never k.time))
+      waiting : (for : Wait) → WaitStands k.queues k.semaphores (Some for) → Made k (wait_for k c for option)
+      waiting for awaits = test k (option == 1) _ _ (λ t. same k _ refl) (λ t. blocks k c numbered for None (never k.time) awaits)
 
-      by_code : (for : Wait) (there : Bool) (code : Option Code) → Made k (wait_child k c for option there code)
-      by_code for there (Some code) = quiet k _ (CodeTaken code)
-      by_code for true None = waiting for
-      by_code for false None = fails k c errno.Echild
+      by_code : (for : Wait) → WaitStands k.queues k.semaphores (Some for) → (there : Bool) (code : Option Code) → Made k (wait_child k c for option there code)
+      by_code for awaits there (Some code) = quiet k _ (CodeTaken code)
+      by_code for awaits true None = waiting for awaits
+      by_code for awaits false None = fails k c errno.Echild
 
   pub arg_made : (index size : ℕ) → Made k (arg_row k c index size)
   unfolding arg_row
@@ -233,7 +224,7 @@ module _ (k : KernelState) (c : Caller) where
     where
       by_thread : (t : Option Thread) → Made k (join_live k c t)
       by_thread None = fails k c errno.Einval
-      by_thread (Some t) = test k (may_join k c t) _ _ (λ u. blocks k c numbered (wait.Thread t.number) None (never k.time)) (λ u. fails k c errno.Einval)
+      by_thread (Some t) = test k (may_join k c t) _ _ (λ u. blocks k c numbered (wait.Thread t.number) None (never k.time) tt) (λ u. fails k c errno.Einval)
 
       by_value : (v : Option ThreadValue) → Made k (join_value k c thread v)
       by_value None = by_thread (thread_of k.sched.threads thread)

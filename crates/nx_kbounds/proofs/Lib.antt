@@ -2,6 +2,7 @@ pub mod Changes
 pub mod Walking
 pub mod ShortTexts
 pub mod Holding
+pub mod Naming
 pub mod FileWalk
 pub mod TreeWalk
 pub mod EnvironmentWalk
@@ -13,4 +14,6 @@ pub mod FewWalk
 pub mod PlaceWalk
 pub mod NearWalk
 pub mod ShortWalk
+pub mod LedWalk
 pub mod Reached
+pub mod Describing

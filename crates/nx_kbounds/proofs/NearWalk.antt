@@ -20,7 +20,7 @@ use Rattle.nx_kbounds.specs.Counts.{AreNear, IsTimely}
 use Rattle.nx_kbounds.proofs.Changes.{Change, Same, Then, Fails, Wakes, Waits, Prioritises, Yields, ThreadBegins, GroupBegins, ThreadGoes, ThreadLeaves, Vanishes, Passes, IsNear}
 
 -- threads that change keep their deadlines, or get such
-each_changed : (number : ℕ) (f : Thread → Thread) (P Q : Thread → Type 0) (ts : List (Option Thread)) → ((t : Thread) → P t → Q (f t)) → ((t : Thread) → P t → Q t) → EachStanding P ts → EachStanding Q (change_thread number f ts)
+pub each_changed : (number : ℕ) (f : Thread → Thread) (P Q : Thread → Type 0) (ts : List (Option Thread)) → ((t : Thread) → P t → Q (f t)) → ((t : Thread) → P t → Q t) → EachStanding P ts → EachStanding Q (change_thread number f ts)
 unfolding change_thread
 each_changed number f P Q [] own same h p t s = absurd (none_some (Some t) s)
 each_changed number f P Q (o ∷ ts) own same h zero t s = by_one o (λ u e. h 0 u (ap Some e)) (some_same _ (Some t) s)
@@ -37,10 +37,10 @@ each_changed number f P Q (o ∷ ts) own same h (suc p) t s = each_changed numbe
 each_weaker : (P Q : Thread → Type 0) (ts : List (Option Thread)) → ((t : Thread) → P t → Q t) → EachStanding P ts → EachStanding Q ts
 each_weaker P Q ts weaker h p t s = weaker t (h p t s)
 
-each_left : (P : Thread → Type 0) (f : Option Thread → Option Thread) → ((o : Option Thread) (t : Thread) → f o ≡ Some t → o ≡ Some t) → (ts : List (Option Thread)) → EachStanding P ts → EachStanding P (map f ts)
+pub each_left : (P : Thread → Type 0) (f : Option Thread → Option Thread) → ((o : Option Thread) (t : Thread) → f o ≡ Some t → o ≡ Some t) → (ts : List (Option Thread)) → EachStanding P ts → EachStanding P (map f ts)
 each_left P f same ts h = standing_changed P f ts (λ o t e k. k t (same o t e)) h
 
-left_of_group : (group : ℕ) (o : Option Thread) (t : Thread) → without_group group o ≡ Some t → o ≡ Some t
+pub left_of_group : (group : ℕ) (o : Option Thread) (t : Thread) → without_group group o ≡ Some t → o ≡ Some t
 left_of_group group None t e = e
 left_of_group group (Some u) t e = by_test (u.group == group) e
   where
@@ -48,7 +48,7 @@ left_of_group group (Some u) t e = by_test (u.group == group) e
     by_test true q = absurd (none_some t q)
     by_test false q = q
 
-left_of_number : (number : ℕ) (o : Option Thread) (t : Thread) → without_thread number o ≡ Some t → o ≡ Some t
+pub left_of_number : (number : ℕ) (o : Option Thread) (t : Thread) → without_thread number o ≡ Some t → o ≡ Some t
 left_of_number number o t e = by_test (is_thread number o) e
   where
     by_test : (b : Bool) → (if b then None else o) ≡ Some t → o ≡ Some t
@@ -93,7 +93,7 @@ change_near (Fails {k = k} thread e) h = same_moment k.time k.late k.sched.momen
     (each_changed thread (λ t. record t { errno = number_of e }) (λ t. deadline_of t.doing + 2 ^ 31 * length k.late ≤ 2 ^ 31 * (k.sched.moments + 4096)) (λ t. deadline_of t.doing + 2 ^ 31 * length k.late ≤ 2 ^ 31 * (k.sched.moments + 4096)) k.sched.threads (λ t p. p) (λ t p. p) h.deadlines)
 change_near (Wakes {k = k} t slot s r) h = more k.time k.late k.sched.moments k.sched.threads _ h
     (each_changed t.number (λ u. record u { doing = doing.Ready k.sched.moments }) (λ t. deadline_of t.doing + 2 ^ 31 * length k.late ≤ 2 ^ 31 * (k.sched.moments + 4096)) (λ t. deadline_of t.doing + 2 ^ 31 * length k.late ≤ 2 ^ 31 * (k.sched.moments + 1 + 4096)) k.sched.threads (λ u p. let q = h.passed in omega (arith, q)) (λ u p. omega (arith, p)) h.deadlines)
-change_near (Waits {k = k} thread asked for deadline numbered near) h = more k.time k.late k.sched.moments k.sched.threads _ h
+change_near (Waits {k = k} thread asked for deadline numbered near awaits) h = more k.time k.late k.sched.moments k.sched.threads _ h
     (each_changed thread (λ t. record t { doing = begin_wait k.sched.moments for deadline; asked = asked }) (λ t. deadline_of t.doing + 2 ^ 31 * length k.late ≤ 2 ^ 31 * (k.sched.moments + 4096)) (λ t. deadline_of t.doing + 2 ^ 31 * length k.late ≤ 2 ^ 31 * (k.sched.moments + 1 + 4096)) k.sched.threads
     (λ u p. begun k.time (length k.late) k.sched.moments for deadline near h.passed) (λ u p. omega (arith, p)) h.deadlines)
 change_near (Prioritises {k = k} thread priority) h = more k.time k.late k.sched.moments k.sched.threads _ h
@@ -105,7 +105,7 @@ change_near (Yields {k = k} thread) h = more k.time k.late k.sched.moments k.sch
 change_near (ThreadBegins {k = k} slot group priority free few) h = more k.time k.late k.sched.moments k.sched.threads _ h
     (standing_set (λ t. deadline_of t.doing + 2 ^ 31 * length k.late ≤ 2 ^ 31 * (k.sched.moments + 1 + 4096)) k.sched.threads slot _ (let q = h.passed in omega (arith, q))
     (each_weaker (λ t. deadline_of t.doing + 2 ^ 31 * length k.late ≤ 2 ^ 31 * (k.sched.moments + 4096)) (λ t. deadline_of t.doing + 2 ^ 31 * length k.late ≤ 2 ^ 31 * (k.sched.moments + 1 + 4096)) k.sched.threads (λ u p. omega (arith, p)) h.deadlines))
-change_near (GroupBegins {k = k} c slot program priority arguments free few there short) h = more k.time k.late k.sched.moments k.sched.threads _ h
+change_near (GroupBegins {k = k} c slot program priority arguments free few there short empty) h = more k.time k.late k.sched.moments k.sched.threads _ h
     (standing_set (λ t. deadline_of t.doing + 2 ^ 31 * length k.late ≤ 2 ^ 31 * (k.sched.moments + 1 + 4096)) k.sched.threads slot _ (let q = h.passed in omega (arith, q))
     (each_weaker (λ t. deadline_of t.doing + 2 ^ 31 * length k.late ≤ 2 ^ 31 * (k.sched.moments + 4096)) (λ t. deadline_of t.doing + 2 ^ 31 * length k.late ≤ 2 ^ 31 * (k.sched.moments + 1 + 4096)) k.sched.threads (λ u p. omega (arith, p)) h.deadlines))
 change_near (ThreadGoes {k = k} t slot s) h = same_moment k.time k.late k.sched.moments k.sched.threads _ h

@@ -11,7 +11,7 @@ use Rattle.nx_ksys.specs.GroupCalls.{with_streams, with_new_thread, with_new_gro
 use Rattle.nx_ksys.specs.QueueCalls.{with_sent}
 use Rattle.nx_ksys.proofs.Standing.{length_map, length_set}
 use Rattle.nx_kbounds.specs.Counts.{places}
-use Rattle.nx_kbounds.proofs.Changes.{Change, Same, Then, Fails, Wakes, Waits, Prioritises, Yields, ThreadBegins, GroupBegins, ThreadGoes, ThreadLeaves, Vanishes, Idles, GroupGoes, GroupLeaves, Enters, Sets, Shares, Closes, OpenGoes, Opens, Seeks, Writes, Empties, FileBegins, FileSweeps, QueueBegins, QueueChanges, Sends, QueueSweeps, SemaphoreBegins, SemaphoreChanges, SemaphoreSweeps}
+use Rattle.nx_kbounds.proofs.Changes.{Change, Same, Then, Fails, Wakes, Waits, Prioritises, Yields, ThreadBegins, GroupBegins, ThreadGoes, ThreadLeaves, Vanishes, Idles, GroupGoes, GroupLeaves, Enters, Sets, Shares, Closes, ClosesLast, Opens, Seeks, Writes, Empties, FileBegins, FileSweeps, QueueBegins, QueueChanges, Sends, QueueSweeps, SemaphoreBegins, SemaphoreChanges, SemaphoreSweeps}
 
 changed_places : (number : ℕ) (f : Thread → Thread) (ts : List (Option Thread)) → length (change_thread number f ts) ≡ length ts
 unfolding change_thread
@@ -54,11 +54,11 @@ change_places Same = refl
 change_places (Then c d) = change_places d ∙ change_places c
 change_places (Fails {k = k} thread e) = ap (λ n. record (places k) { threads = n }) (changed_places thread _ k.sched.threads)
 change_places (Wakes {k = k} t slot s r) = ap (λ n. record (places k) { threads = n }) (changed_places t.number _ k.sched.threads)
-change_places (Waits {k = k} thread asked for deadline numbered near) = ap (λ n. record (places k) { threads = n }) (changed_places thread _ k.sched.threads)
+change_places (Waits {k = k} thread asked for deadline numbered near awaits) = ap (λ n. record (places k) { threads = n }) (changed_places thread _ k.sched.threads)
 change_places (Prioritises {k = k} thread priority) = ap (λ n. record (places k) { threads = n }) (changed_places thread _ k.sched.threads)
 change_places (Yields {k = k} thread) = ap (λ n. record (places k) { threads = n }) (changed_places thread _ k.sched.threads)
 change_places (ThreadBegins {k = k} slot group priority free few) = ap (λ n. record (places k) { threads = n }) (length_set k.sched.threads slot _)
-change_places (GroupBegins {k = k} c slot program priority arguments free few there short) =
+change_places (GroupBegins {k = k} c slot program priority arguments free few there short empty) =
     ap (λ n. record (places k) { threads = n; groups = length (with_new_group (with_new_thread k slot 0 priority) c slot program arguments).groups; descriptors = length (with_streams k.descriptors c.place slot) }) (length_set k.sched.threads slot _)
     ∙ ap (λ n. record (places k) { groups = n; descriptors = length (with_streams k.descriptors c.place slot) }) (length_set k.groups slot _)
     ∙ ap (λ n. record (places k) { descriptors = n }) (stream_places k.descriptors c.place slot)
@@ -70,14 +70,16 @@ change_places (Vanishes {k = k} group) =
 change_places (Idles {k = k}) =
     ap (λ n. record (places k) { queues = n; semaphores = length (living_from (semaphore_lives k) 0 k.semaphores) }) (living_places (queue_lives k) 0 k.queues)
     ∙ ap (λ n. record (places k) { semaphores = n }) (living_places (semaphore_lives k) 0 k.semaphores)
-change_places (GroupGoes {k = k} place g e there) = ap (λ n. record (places k) { groups = n }) (gone_places g.number place k.groups)
-change_places (GroupLeaves {k = k} place g e code there) = ap (λ n. record (places k) { groups = n }) (gone_places g.number place k.groups)
+change_places (GroupGoes {k = k} place g e there none) = ap (λ n. record (places k) { groups = n }) (gone_places g.number place k.groups)
+change_places (GroupLeaves {k = k} place g e code there none) = ap (λ n. record (places k) { groups = n }) (gone_places g.number place k.groups)
 change_places (Enters {k = k} place g path there short) = ap (λ n. record (places k) { groups = n }) (length_set k.groups place _)
 change_places (Sets {k = k} place g variables there short) = ap (λ n. record (places k) { groups = n }) (length_set k.groups place _)
-change_places (Shares {k = k} place fd description held) = ap (λ n. record (places k) { descriptors = n }) (length_set k.descriptors _ _)
-change_places (Closes {k = k} place fd) = ap (λ n. record (places k) { descriptors = n }) (length_set k.descriptors _ _)
-change_places (OpenGoes {k = k} place held) = ap (λ n. record (places k) { opens = n }) (length_set k.opens place None)
-change_places (Opens {k = k} place fd at to flags free least) =
+change_places (Shares {k = k} place fd description held free) = ap (λ n. record (places k) { descriptors = n }) (length_set k.descriptors _ _)
+change_places (Closes {k = k} place fd d held there) = ap (λ n. record (places k) { descriptors = n }) (length_set k.descriptors _ _)
+change_places (ClosesLast {k = k} place fd d held there) =
+    ap (λ n. record (places k) { descriptors = n; opens = length (slice_set k.opens d None) }) (length_set k.descriptors _ _)
+    ∙ ap (λ n. record (places k) { opens = n }) (length_set k.opens d None)
+change_places (Opens {k = k} place fd at to flags free there least leads) =
     ap (λ n. record (places k) { descriptors = n; opens = length (slice_set k.opens at (Some (record { target = to; flags = flags; offset = 0 }))) }) (length_set k.descriptors _ _)
     ∙ ap (λ n. record (places k) { opens = n }) (length_set k.opens at _)
 change_places (Seeks {k = k} place o offset there) = ap (λ n. record (places k) { opens = n }) (length_set k.opens place _)

@@ -1,4 +1,5 @@
 -- The changes of which calls on semaphores and queues are made.
+use Rattle.std.proofs.Common.{ap}
 use Rattle.std.proofs.Common.{◌≡◌, ℕ, ◌+◌, ◌<◌, ◌≤◌, ◌==◌, ◌&&◌, ◌||◌, Bool, true, false, List, [], ◌∷◌, length, take, min, Option, Some, None, refl, subst, arith, length-append}
 use Rattle.std.specs.Prelude.{not, nat_le, nat_lt, slice_get, codes, ◌-◌}
 use Rattle.std.specs.List.{position_from, list_any}
@@ -31,6 +32,11 @@ use Rattle.nx_ksys.proofs.Waking.{first_stands, awaited_waits}
 use Rattle.nx_ksys.proofs.ByteWalks.{each_none, each_more, each_joined}
 use Rattle.nx_kbounds.specs.Shortness.{IsShortMessage, IsShortQueue, IsShortSemaphore}
 use Rattle.nx_kbounds.proofs.Changes.{Change, Same, Then, Wakes, Waits, PathGoes, QueueBegins, QueueChanges, Sends, SemaphoreBegins, SemaphoreChanges, AreNumbered}
+use Rattle.std.proofs.Common.{inl, inr}
+use Rattle.std.specs.Option.{is_some}
+use Rattle.nx_ksys.specs.Bounds.{queue_place, stands}
+use Rattle.nx_ksys.proofs.Standing.{free_place, off_on, IsPlace, place_found}
+use Rattle.nx_kbounds.proofs.Naming.{named_leads, new_stands}
 use Rattle.nx_kbounds.proofs.Walking.{Made, quiet, twice, followed, test, fails, blocks, never, target_change, closed_change, describes}
 use Rattle.nx_kbounds.proofs.ShortTexts.{or_false, not_false, fewer_messages, one_less}
 use Rattle.nx_kbounds.proofs.EnvironmentWalk.{near}
@@ -74,6 +80,17 @@ queue_stands k c fd q e = by_open (opened k c.place fd) e
     by_open : (o : Option Opened) → queue_behind k o ≡ Some q → flat (slice_get k.queues q.place) ≡ Some q.queue
     by_open None f = absurd (none_some q f)
     by_open (Some o) f = to_queue k o.description.flags o.description.target q f
+
+-- the semaphore of a name stands
+named_stands : (name : List ℕ) (ss : List (Option Semaphore)) (place : ℕ) → position_from (has_name name) 0 ss ≡ Some place → stands ss place ≡ true
+named_stands name ss place e = by_item f.item f.at f.passes (let i = f.is in omega (arith, i))
+  where
+    f : IsPlace (has_name name) ss 0 place
+    f = place_found (has_name name) ss 0 place e
+
+    by_item : (o : Option Semaphore) → slice_get ss f.place ≡ Some o → has_name name o ≡ true → f.place ≡ place → stands ss place ≡ true
+    by_item None a t s = absurd (off_on false refl t)
+    by_item (Some x) a t s = subst (λ p. stands ss p ≡ true) s (ap (λ (o : Option (Option Semaphore)). is_some (flat o)) a)
 
 -- ---- names and limits
 
@@ -158,20 +175,20 @@ queue_rejoined q m t (Some x) short h =
 module _ (k : KernelState) (c : Caller) where
   -- ---- semaphores
 
-  pub sem_open_made : (name : List ℕ) (flags value : ℕ) → Made k (sem_open_row k c name flags value)
+  pub sem_open_made : flat (slice_get k.groups c.place) ≡ Some c.group → (name : List ℕ) (flags value : ℕ) → Made k (sem_open_row k c name flags value)
   unfolding sem_open_row
-  sem_open_made name flags value = test k (not (is_semaphore_name name && are_semaphore_flags flags)) _ _ (λ t. fails k c errno.Einval) (λ t. by_name t (position_from (has_name name) 0 k.semaphores))
+  sem_open_made lives name flags value = test k (not (is_semaphore_name name && are_semaphore_flags flags)) _ _ (λ t. fails k c errno.Einval) (λ t. by_name t (position_from (has_name name) 0 k.semaphores) refl)
     where
       by_place : IsShortSemaphore (record { name = name; value = value }) → nat_le k.limits.objects (objects k) ≡ false → (place : Option ℕ) → position_from is_none 0 k.semaphores ≡ place → Made k (create_semaphore_at k c name flags value place)
       by_place short room None e = fails k c errno.Enospc
       by_place short room (Some place) e =
-          describes k (with_semaphore k place (record { name = name; value = value })) c (target.Semaphore place) flags (SemaphoreBegins place (record { name = name; value = value }) e room short)
+          describes k (with_semaphore k place (record { name = name; value = value })) c (target.Semaphore place) flags lives (new_stands k.semaphores place (record { name = name; value = value }) (free_place k.semaphores place e)) (SemaphoreBegins place (record { name = name; value = value }) e room short)
 
-      by_name : not (is_semaphore_name name && are_semaphore_flags flags) ≡ false → (place : Option ℕ) → Made k (open_semaphore k c name flags value place)
-      by_name named None =
+      by_name : not (is_semaphore_name name && are_semaphore_flags flags) ≡ false → (place : Option ℕ) → position_from (has_name name) 0 k.semaphores ≡ place → Made k (open_semaphore k c name flags value place)
+      by_name named None e =
           test k (not (creates flags)) _ _ (λ t. fails k c errno.Enoent) (λ t. test k (nat_lt most_posts value) _ _ (λ u. fails k c errno.Einval)
           (λ u. test k (nat_le k.limits.objects (objects k)) _ _ (λ v. fails k c errno.Enospc) (λ v. by_place (semaphore_short name flags value named u) v (position_from is_none 0 k.semaphores) refl)))
-      by_name named (Some place) = test k (is_exclusive flags) _ _ (λ t. fails k c errno.Eexist) (λ t. describes k k c (target.Semaphore place) flags Same)
+      by_name named (Some place) e = test k (is_exclusive flags) _ _ (λ t. fails k c errno.Eexist) (λ t. describes k k c (target.Semaphore place) flags lives (named_stands name k.semaphores place e) Same)
 
   takes_one : (s : SemaphoreAt) → flat (slice_get k.semaphores s.place) ≡ Some s.semaphore → Made k (take_one k c s)
   takes_one s there = quiet k _ (SemaphoreChanges s.place s.semaphore (record s.semaphore { value = s.semaphore.value - 1 }) there (λ h. record { text = h.text; most = (let a = h.most in omega (arith, a)) }))
@@ -182,7 +199,7 @@ module _ (k : KernelState) (c : Caller) where
     where
       by_semaphore : (s : Option SemaphoreAt) → semaphore_of k c fd ≡ s → Made k (wait_on k c s)
       by_semaphore None e = fails k c errno.Ebadf
-      by_semaphore (Some s) e = test k (s.semaphore.value == 0) _ _ (λ t. blocks k c numbered (wait.Semaphore s.place) None (never k.time)) (λ t. takes_one s (semaphore_stands k c fd s e))
+      by_semaphore (Some s) e = test k (s.semaphore.value == 0) _ _ (λ t. blocks k c numbered (wait.Semaphore s.place) None (never k.time) (ap is_some (semaphore_stands k c fd s e))) (λ t. takes_one s (semaphore_stands k c fd s e))
 
   pub sem_trywait_made : (fd : ℕ) → Made k (sem_trywait_row k c fd)
   unfolding sem_trywait_row
@@ -218,29 +235,29 @@ module _ (k : KernelState) (c : Caller) where
 
   -- ---- queues
 
-  pub mq_open_made : (name : List ℕ) (flags limit size : ℕ) → Made k (mq_open_row k c name flags limit size)
+  pub mq_open_made : flat (slice_get k.groups c.place) ≡ Some c.group → (name : List ℕ) (flags limit size : ℕ) → Made k (mq_open_row k c name flags limit size)
   unfolding mq_open_row
-  mq_open_made name flags limit size =
-      test k (not (is_queue_name name && are_queue_flags flags)) _ _ (λ t. fails k c errno.Einval) (λ t. by_node (queue_path name) (queue_path_short name flags t) (node_at k.tree.entries (queue_path name)))
+  mq_open_made lives name flags limit size =
+      test k (not (is_queue_name name && are_queue_flags flags)) _ _ (λ t. fails k c errno.Einval) (λ t. by_node (queue_path name) (queue_path_short name flags t) (node_at k.tree.entries (queue_path name)) refl)
     where
       by_place : (path : List ℕ) → length path ≤ 255 → IsShortQueue (record { limit = limit; size = size; messages = [] }) → nat_le k.limits.objects (objects k) ≡ false → (place : Option ℕ) → position_from is_none 0 k.queues ≡ place
           → Made k (create_queue_at k c path flags limit size place)
       by_place path le short room None e = fails k c errno.Enospc
-      by_place path le short room (Some place) e = describes k (with_new_queue k path place limit size) c (target.Queue place) flags (QueueBegins path place limit size e le room short)
+      by_place path le short room (Some place) e = describes k (with_new_queue k path place limit size) c (target.Queue place) flags lives (inl (new_stands k.queues place (record { limit = limit; size = size; messages = [] }) (free_place k.queues place e))) (QueueBegins path place limit size e le room short)
 
-      by_kind : (n : NodeKind) → Made k (open_queue k c flags n)
-      by_kind node.Directory = fails k c errno.Einval
-      by_kind (node.File place) = fails k c errno.Einval
-      by_kind node.Console = fails k c errno.Einval
-      by_kind node.Null = fails k c errno.Einval
-      by_kind (node.Program place) = fails k c errno.Einval
-      by_kind (node.Queue place) = describes k k c (target.Queue place) flags Same
+      by_kind : (path : List ℕ) (n : Node) → node_at k.tree.entries path ≡ Some n → (kind : NodeKind) → n.kind ≡ kind → Made k (open_queue k c flags kind)
+      by_kind path n e node.Directory f = fails k c errno.Einval
+      by_kind path n e (node.File place) f = fails k c errno.Einval
+      by_kind path n e node.Console f = fails k c errno.Einval
+      by_kind path n e node.Null f = fails k c errno.Einval
+      by_kind path n e (node.Program place) f = fails k c errno.Einval
+      by_kind path n e (node.Queue place) f = describes k k c (target.Queue place) flags lives (inr (named_leads queue_place k.tree.entries path n place e (ap queue_place f))) Same
 
-      by_node : (path : List ℕ) → length path ≤ 255 → (n : Option Node) → Made k (mq_open_node k c path flags limit size n)
-      by_node path le None =
+      by_node : (path : List ℕ) → length path ≤ 255 → (n : Option Node) → node_at k.tree.entries path ≡ n → Made k (mq_open_node k c path flags limit size n)
+      by_node path le None e =
           test k (not (creates flags)) _ _ (λ t. fails k c errno.Enoent) (λ t. test k (not (are_queue_limits limit size)) _ _ (λ u. fails k c errno.Einval)
           (λ u. test k (nat_le k.limits.objects (objects k)) _ _ (λ v. fails k c errno.Enospc) (λ v. by_place path le (limits_short limit size u) v (position_from is_none 0 k.queues) refl)))
-      by_node path le (Some n) = test k (is_exclusive flags) _ _ (λ t. fails k c errno.Eexist) (λ t. by_kind n.kind)
+      by_node path le (Some n) e = test k (is_exclusive flags) _ _ (λ t. fails k c errno.Eexist) (λ t. by_kind path n e n.kind refl)
 
   pub mq_unlink_made : (name : List ℕ) → Made k (mq_unlink_row k c name)
   unfolding mq_unlink_row
@@ -277,7 +294,7 @@ module _ (k : KernelState) (c : Caller) where
       joins m short q there =
           test k (is_full q.queue) _ _
           (λ t. twice k _ (Then (Sends (slot_of k.sched.threads c.thread.number) (Some m) (λ n e. subst IsShortMessage (some_same m n e) short))
-          (Waits c.thread.number c.asked (wait.Send q.place) None numbered (never k.time))))
+          (Waits c.thread.number c.asked (wait.Send q.place) None numbered (never k.time) (ap is_some there))))
           (λ t. quiet k _ (QueueChanges q.place q.queue (with_message q.queue m) there (λ sent h. message_joins q.queue m short (has_room q.queue t) h)))
 
       by_receiver : (m : Message) → IsShortMessage m → (q : QueueAt) → flat (slice_get k.queues q.place) ≡ Some q.queue → (t : Option Thread) → first_of (search.Receiver q.place) k.sched.threads ≡ t → Made k (send_to k c q m t)
@@ -296,9 +313,9 @@ module _ (k : KernelState) (c : Caller) where
   receive_made : AreNumbered k.sched.threads → (fd size : ℕ) (ticks : Option ℕ) (q : Option QueueAt) → queue_of k c fd ≡ q → Made k (receive_on k c size ticks q)
   receive_made numbered fd size ticks q e = by_queue q e
     where
-      later : (place : ℕ) (ticks : Option ℕ) → are_past ticks ≡ false → Made k (receive_waits k c place ticks)
-      later place None e = blocks k c numbered (wait.Receive place) None (never k.time)
-      later place (Some ticks) e = test k (ticks == 0) _ _ (λ t. fails k c errno.Etimedout) (λ t. blocks k c numbered (wait.Receive place) (Some (k.time + ticks)) (near k.time ticks e))
+      later : (place : ℕ) → stands k.queues place ≡ true → (ticks : Option ℕ) → are_past ticks ≡ false → Made k (receive_waits k c place ticks)
+      later place there None e = blocks k c numbered (wait.Receive place) None (never k.time) there
+      later place there (Some ticks) e = test k (ticks == 0) _ _ (λ t. fails k c errno.Etimedout) (λ t. blocks k c numbered (wait.Receive place) (Some (k.time + ticks)) (near k.time ticks e) there)
 
       by_sender : (q : QueueAt) → flat (slice_get k.queues q.place) ≡ Some q.queue → (m : Message) → IsTaken q.queue m → (bytes : List ℕ) (t : Option Thread) → first_of (search.Sender q.place) k.sched.threads ≡ t
           → Made k (receive_then k c q.place (taken_from q.queue m.priority) bytes m.priority t)
@@ -314,7 +331,7 @@ module _ (k : KernelState) (c : Caller) where
           (Wakes t f.slot f.stands (awaited_waits (is_for_room q.place) refl t.doing f.passes)))
 
       by_message : (q : QueueAt) → flat (slice_get k.queues q.place) ≡ Some q.queue → are_past ticks ≡ false → (m : Option Message) → next_message q.queue.messages ≡ m → Made k (receive_from k c q size ticks m)
-      by_message q there past None e = test k (never_waits q.flags) _ _ (λ t. fails k c errno.Eagain) (λ t. later q.place ticks past)
+      by_message q there past None e = test k (never_waits q.flags) _ _ (λ t. fails k c errno.Eagain) (λ t. later q.place (ap is_some there) ticks past)
       by_message q there past (Some m) e = by_sender q there m (next_taken q.queue m e) (take (min size most_moved) m.bytes) (first_of (search.Sender q.place) k.sched.threads) refl
 
       by_queue : (q : Option QueueAt) → queue_of k c fd ≡ q → Made k (receive_on k c size ticks q)

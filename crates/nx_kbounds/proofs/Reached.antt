@@ -34,7 +34,7 @@ use Rattle.nx_kbounds.proofs.ShortWalk.{change_short}
 -- ---- places
 
 pub calls_take_none : CallsTakeNone
-calls_take_none k thread which words inputs sound given = let m = step_made k thread which words inputs sound.distinct given in change_places m.change
+calls_take_none k thread which words inputs sound given = let m = step_made k thread which words inputs sound given in change_places m.change
 
 pub choices_take_none : ChoicesTakeNone
 choices_take_none k = change_places (picked_change k)
@@ -81,7 +81,7 @@ few_after a calls x y g h later le = record {
 
 pub calls_stay_few : CallsKeep IsFew
 calls_stay_few k thread which words inputs sound given h =
-    let m = step_made k thread which words inputs sound.distinct given in
+    let m = step_made k thread which words inputs sound given in
     let s = step k thread which words inputs in
     let calls : s.to.calls ≡ k.calls + 1 = change_calls m.change in
     let few = m.few in
@@ -128,7 +128,7 @@ groups_are_few k sound =
 -- ---- time
 
 pub calls_stay_timely : CallsKeep IsTimely
-calls_stay_timely k thread which words inputs sound given h = let m = step_made k thread which words inputs sound.distinct given in change_near m.change h
+calls_stay_timely k thread which words inputs sound given h = let m = step_made k thread which words inputs sound given in change_near m.change h
 
 pub choices_stay_timely : ChoicesKeep IsTimely
 choices_stay_timely k h = change_near (picked_change k) h
@@ -147,7 +147,7 @@ boot_is_timely limits others input late l = record {
 -- ---- texts
 
 pub calls_stay_short : CallsKeep IsShort
-calls_stay_short k thread which words inputs sound given h = let m = step_made k thread which words inputs sound.distinct given in change_short m.change h
+calls_stay_short k thread which words inputs sound given h = let m = step_made k thread which words inputs sound given in change_short m.change h
 
 pub choices_stay_short : ChoicesKeep IsShort
 choices_stay_short k h = change_short (picked_change k) h

@@ -110,7 +110,7 @@ pub change_short : {a : ℕ} {k l : KernelState} → Change a k l → IsShort k 
 unfolding left_alone without_idle
 change_short Same h = h
 change_short (Then c d) h = change_short d (change_short c h)
-change_short (GroupBegins {k = k} c slot program priority arguments free few there short) h =
+change_short (GroupBegins {k = k} c slot program priority arguments free few there short empty) h =
     let own = group_at k.groups c.place c.group there h.each_group in
     record {
       paths = h.paths;
@@ -131,8 +131,8 @@ change_short (Idles {k = k}) h = record {
   each_semaphore = living_short IsShortSemaphore (semaphore_lives k) 0 k.semaphores h.each_semaphore;
   shows = h.shows;
 }
-change_short (GroupGoes {k = k} place g e there) h = record { paths = h.paths; contents = h.contents; each_group = gone_short g.number place k.groups h.each_group; each_queue = h.each_queue; each_sent = h.each_sent; each_semaphore = h.each_semaphore; shows = h.shows }
-change_short (GroupLeaves {k = k} place g e code there) h = record { paths = h.paths; contents = h.contents; each_group = gone_short g.number place k.groups h.each_group; each_queue = h.each_queue; each_sent = h.each_sent; each_semaphore = h.each_semaphore; shows = h.shows }
+change_short (GroupGoes {k = k} place g e there none) h = record { paths = h.paths; contents = h.contents; each_group = gone_short g.number place k.groups h.each_group; each_queue = h.each_queue; each_sent = h.each_sent; each_semaphore = h.each_semaphore; shows = h.shows }
+change_short (GroupLeaves {k = k} place g e code there none) h = record { paths = h.paths; contents = h.contents; each_group = gone_short g.number place k.groups h.each_group; each_queue = h.each_queue; each_sent = h.each_sent; each_semaphore = h.each_semaphore; shows = h.shows }
 change_short (Enters {k = k} place g path there short) h =
     let own = group_at k.groups place g there h.each_group in
     record {

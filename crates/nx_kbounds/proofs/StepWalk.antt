@@ -20,11 +20,11 @@ use Rattle.nx_ksys.specs.State.{Group, KernelState}
 use Rattle.nx_ksys.specs.Answers.{Caller, place_of, word_at, input_at}
 use Rattle.nx_ksys.specs.Step.{row_of, asked, counted, meant_call, called_in, called_by, called, step}
 use Rattle.nx_ksys.specs.Picking.{Picked, timed_out, if_due, first_due, wake_first, wake_due, next_late, passed, passed_if, advanced, picked_after, picked}
-use Rattle.nx_ksys.specs.Soundness.{Stands}
+use Rattle.nx_ksys.specs.Soundness.{Stands, IsSound}
 use Rattle.nx_ksys.specs.TableLaws.{kinds_in}
 use Rattle.nx_ksys.proofs.Standing.{none_some, found_at}
 use Rattle.nx_ksys.proofs.Waking.{first_stands}
-use Rattle.nx_kbounds.proofs.Changes.{Change, Same, Fails, Wakes, Idles, Passes, AreNumbered}
+use Rattle.nx_kbounds.proofs.Changes.{Change, Same, Fails, Wakes, Idles, Passes}
 use Rattle.nx_kbounds.proofs.Walking.{Made, followed, fails, same}
 use Rattle.nx_kbounds.proofs.ShortTexts.{second_text, sent_bytes}
 use Rattle.nx_kbounds.proofs.FileWalk.{write_made, read_made, open_made, close_made, lseek_made, dup_made, dup2_made}
@@ -35,7 +35,7 @@ use Rattle.nx_kbounds.proofs.EnvironmentWalk.{sleep_made, ticks_made, getenv_mad
 
 -- who calls: its thread stands in a slot, and its group at its place
 pub record IsCaller (k : KernelState) (c : Caller) : Type 0 where
-  pub numbered : AreNumbered k.sched.threads
+  pub sound : IsSound k
   pub slot : ℕ
   pub stands : Stands k.sched.threads slot c.thread
   pub lives : flat (slice_get k.groups c.place) ≡ Some c.group
@@ -43,11 +43,11 @@ pub record IsCaller (k : KernelState) (c : Caller) : Type 0 where
 row_made : (which : KCall) (k : KernelState) (c : Caller) (words : List ℕ) (inputs : List (List ℕ)) → IsCaller k c → AreInputs (kinds_of which) words inputs → Made k (row_of which k c words inputs)
 row_made call.Write k c words inputs h a = write_made k c (word_at words 0) (input_at inputs 0)
 row_made call.Read k c words inputs h a = read_made k c (word_at words 0) (word_at words 2)
-row_made call.Open k c words inputs h a = open_made k c (input_at inputs 0) (word_at words 1)
+row_made call.Open k c words inputs h a = open_made k c h.lives (input_at inputs 0) (word_at words 1)
 row_made call.Close k c words inputs h a = close_made k c (word_at words 0)
 row_made call.Lseek k c words inputs h a = lseek_made k c (word_at words 0) (word_at words 1) (word_at words 2)
-row_made call.Dup k c words inputs h a = dup_made k c (word_at words 0)
-row_made call.Dup2 k c words inputs h a = dup2_made k c (word_at words 0) (word_at words 1)
+row_made call.Dup k c words inputs h a = dup_made k c h.lives (word_at words 0)
+row_made call.Dup2 k c words inputs h a = dup2_made k c h.lives (word_at words 0) (word_at words 1)
 row_made call.Unlink k c words inputs h a = unlink_made k c (input_at inputs 0)
 row_made call.Mkdir k c words inputs h a = mkdir_made k c (input_at inputs 0)
 row_made call.Rmdir k c words inputs h a = rmdir_made k c (input_at inputs 0)
@@ -56,10 +56,10 @@ row_made call.Chdir k c words inputs h a = chdir_made k c h.lives (input_at inpu
 row_made call.NxGetcwd k c words inputs h a = getcwd_made k c (word_at words 1)
 row_made call.NxReaddir k c words inputs h a = readdir_made k c (input_at inputs 0) (word_at words 1) (word_at words 3)
 row_made call.NxKind k c words inputs h a = kind_made k c (input_at inputs 0)
-row_made call.NxSpawn k c words inputs h a = spawn_made k c h.lives (input_at inputs 0) (input_at inputs 1) (word_at words 2) (second_text words inputs a)
+row_made call.NxSpawn k c words inputs h a = spawn_made k c h.sound h.lives (input_at inputs 0) (input_at inputs 1) (word_at words 2) (second_text words inputs a)
 row_made call.Exit k c words inputs h a = exit_made k c (word_at words 0)
 row_made call.Getpid k c words inputs h a = same k _ refl
-row_made call.Waitpid k c words inputs h a = waitpid_made k c h.numbered (word_at words 0) (word_at words 2)
+row_made call.Waitpid k c words inputs h a = waitpid_made k c h.sound.distinct (word_at words 0) (word_at words 2)
 row_made call.NxArgc k c words inputs h a = same k _ refl
 row_made call.NxArg k c words inputs h a = arg_made k c (word_at words 0) (word_at words 2)
 row_made call.NxSetpriority k c words inputs h a = priority_made k c (word_at words 0) (word_at words 1)
@@ -67,20 +67,20 @@ row_made call.SchedYield k c words inputs h a = yield_made k c
 row_made call.NxPs k c words inputs h a = ps_made k c (word_at words 0) (word_at words 2)
 row_made call.NxThread k c words inputs h a = thread_made k c
 row_made call.NxThreadExit k c words inputs h a = thread_exit_made k c h.slot h.stands (word_at words 0)
-row_made call.NxJoin k c words inputs h a = join_made k c h.numbered (word_at words 0)
+row_made call.NxJoin k c words inputs h a = join_made k c h.sound.distinct (word_at words 0)
 row_made call.GetErrno k c words inputs h a = errno_made k c
-row_made call.NxMqOpen k c words inputs h a = mq_open_made k c (input_at inputs 0) (word_at words 1) (word_at words 2) (word_at words 3)
+row_made call.NxMqOpen k c words inputs h a = mq_open_made k c h.lives (input_at inputs 0) (word_at words 1) (word_at words 2) (word_at words 3)
 row_made call.MqClose k c words inputs h a = mq_close_made k c (word_at words 0)
 row_made call.MqUnlink k c words inputs h a = mq_unlink_made k c (input_at inputs 0)
-row_made call.MqSend k c words inputs h a = mq_send_made k c h.numbered (word_at words 0) (input_at inputs 0) (word_at words 2) (word_at words 3) (sent_bytes words inputs a)
-row_made call.MqReceive k c words inputs h a = mq_receive_made k c h.numbered (word_at words 0) (word_at words 2)
-row_made call.NxMqTimedreceive k c words inputs h a = mq_timedreceive_made k c h.numbered (word_at words 0) (word_at words 2) (word_at words 4)
-row_made call.NxSemOpen k c words inputs h a = sem_open_made k c (input_at inputs 0) (word_at words 1) (word_at words 2)
-row_made call.NxSemWait k c words inputs h a = sem_wait_made k c h.numbered (word_at words 0)
+row_made call.MqSend k c words inputs h a = mq_send_made k c h.sound.distinct (word_at words 0) (input_at inputs 0) (word_at words 2) (word_at words 3) (sent_bytes words inputs a)
+row_made call.MqReceive k c words inputs h a = mq_receive_made k c h.sound.distinct (word_at words 0) (word_at words 2)
+row_made call.NxMqTimedreceive k c words inputs h a = mq_timedreceive_made k c h.sound.distinct (word_at words 0) (word_at words 2) (word_at words 4)
+row_made call.NxSemOpen k c words inputs h a = sem_open_made k c h.lives (input_at inputs 0) (word_at words 1) (word_at words 2)
+row_made call.NxSemWait k c words inputs h a = sem_wait_made k c h.sound.distinct (word_at words 0)
 row_made call.NxSemTrywait k c words inputs h a = sem_trywait_made k c (word_at words 0)
 row_made call.NxSemPost k c words inputs h a = sem_post_made k c (word_at words 0)
 row_made call.NxSemClose k c words inputs h a = sem_close_made k c (word_at words 0)
-row_made call.NxSleep k c words inputs h a = sleep_made k c h.numbered (word_at words 0)
+row_made call.NxSleep k c words inputs h a = sleep_made k c h.sound.distinct (word_at words 0)
 row_made call.NxTicks k c words inputs h a = ticks_made k c
 row_made call.NxGetenv k c words inputs h a = getenv_made k c (input_at inputs 0) (word_at words 2)
 row_made call.Setenv k c words inputs h a = setenv_made k c h.lives (input_at inputs 0) (input_at inputs 1) (word_at words 2) (second_text words inputs a)
@@ -92,9 +92,9 @@ unfolding thread_of
 thread_stands ts number t e = let f = found_at (is_numbered number) ts t e in (f.place, f.stands)
 
 -- a call, behind its count
-pub step_made : (k : KernelState) (thread : ℕ) (which : Option KCall) (words : List ℕ) (inputs : List (List ℕ)) → AreNumbered k.sched.threads → AreInputs (kinds_in which) words inputs → Made (counted k) (step k thread which words inputs)
+pub step_made : (k : KernelState) (thread : ℕ) (which : Option KCall) (words : List ℕ) (inputs : List (List ℕ)) → IsSound k → AreInputs (kinds_in which) words inputs → Made (counted k) (step k thread which words inputs)
 unfolding step
-step_made k thread which words inputs numbered given = by_thread (thread_of k.sched.threads thread) refl
+step_made k thread which words inputs sound given = by_thread (thread_of k.sched.threads thread) refl
   where
     by_call : (w : Option KCall) → AreInputs (kinds_in w) words inputs → (c : Caller) → IsCaller (counted k) c → Made (counted k) (asked w (counted k) c words inputs)
     by_call None a c h = fails (counted k) c errno.Enosys
@@ -102,7 +102,7 @@ step_made k thread which words inputs numbered given = by_thread (thread_of k.sc
 
     by_group : (t : Thread) (slot : ℕ) → Stands k.sched.threads slot t → (place : ℕ) (g : Option Group) → flat (slice_get k.groups place) ≡ g → Made (counted k) (called_in (counted k) t which words inputs place g)
     by_group t slot s place None e = same (counted k) _ refl
-    by_group t slot s place (Some g) e = by_call which given (record { thread = t; place = place; group = g; asked = meant_call which words }) (record { numbered = numbered; slot = slot; stands = s; lives = e })
+    by_group t slot s place (Some g) e = by_call which given (record { thread = t; place = place; group = g; asked = meant_call which words }) (record { sound = sound; slot = slot; stands = s; lives = e })
 
     by_place : (t : Thread) (slot : ℕ) → Stands k.sched.threads slot t → (place : Option ℕ) → Made (counted k) (called_by (counted k) t which words inputs place)
     by_place t slot s None = same (counted k) _ refl

@@ -1,5 +1,6 @@
 -- Steps of the walk over the calls: what they share.
-use Rattle.std.proofs.Common.{◌≡◌, ℕ, zero, suc, ◌+◌, ◌≤◌, Bool, true, false, List, length, min, Option, Some, None, refl, sym, ◌∙◌, subst, arith}
+use Rattle.std.proofs.Common.{ap}
+use Rattle.std.proofs.Common.{◌≡◌, inl, inr, ◌*◌, ℕ, zero, suc, ◌+◌, ◌≤◌, Bool, true, false, List, length, min, Option, Some, None, refl, sym, ◌∙◌, subst, arith}
 use Rattle.std.specs.Prelude.{if◌then◌else◌, nat_lt, slice_get}
 use Rattle.std.specs.List.{position_from}
 use Rattle.std.specs.Option.{is_none}
@@ -15,7 +16,10 @@ use Rattle.nx_ksys.specs.Descriptors.{Opened, opened_as, opened, description_at,
 use Rattle.nx_ksys.specs.Answers.{Stepped, Caller, failed, waits, text_out}
 use Rattle.nx_ksys.specs.FileCalls.{describe_at, describe, describe_new}
 use Rattle.nx_ksys.proofs.Standing.{some_same, none_some}
-use Rattle.nx_kbounds.proofs.Changes.{Change, Same, Then, Fails, Waits, Closes, OpenGoes, Opens, FileSweeps, QueueSweeps, SemaphoreSweeps, IsNear, AreNumbered}
+use Rattle.nx_kbounds.specs.Leading.{WaitStands}
+use Rattle.nx_kbounds.proofs.Holding.{descriptor_stands, free_is_closed}
+use Rattle.nx_ksys.specs.Descriptors.{per_group, set_descriptor}
+use Rattle.nx_kbounds.proofs.Changes.{ClosesLast, Leads, Change, Same, Then, Fails, Waits, Closes, Opens, FileSweeps, QueueSweeps, SemaphoreSweeps, IsNear, AreNumbered}
 
 -- a call is made of changes that take at most two moments
 pub record Made (k : KernelState) (s : Stepped) : Type 0 where
@@ -52,8 +56,8 @@ same k s e = quiet k s (subst (λ l. Change 0 k l) (sym e) Same)
 pub texts : (k : KernelState) (c : Caller) (size : ℕ) (text : List ℕ) → Made k (text_out k c size text)
 texts k c size text = test k (nat_lt (length text) (min size 4096)) _ _ (λ e. same k _ refl) (λ e. fails k c errno.Einval)
 
-pub blocks : (k : KernelState) (c : Caller) (numbered : AreNumbered k.sched.threads) (for : Wait) (deadline : Option ℕ) → IsNear k.time deadline → Made k (waits k c for deadline)
-blocks k c numbered for deadline near = twice k _ (Waits c.thread.number c.asked for deadline numbered near)
+pub blocks : (k : KernelState) (c : Caller) (numbered : AreNumbered k.sched.threads) (for : Wait) (deadline : Option ℕ) → IsNear k.time deadline → WaitStands k.queues k.semaphores (Some for) → Made k (waits k c for deadline)
+blocks k c numbered for deadline near awaits = twice k _ (Waits c.thread.number c.asked for deadline numbered near awaits)
 
 pub never : (time : ℕ) → IsNear time None
 never time d e = absurd (none_some d e)
@@ -70,21 +74,20 @@ target_swept k (target.Semaphore place) = SemaphoreSweeps place
 pub target_change : (k : KernelState) (t : Target) → Change 0 k (swept_target k t)
 target_change k t = target_swept k t
 
-pub released_change : (k : KernelState) (place : ℕ) → Change 0 k (released k place)
-unfolding released
-released_change k place = test_change k (is_held place k.descriptors) k _ (λ e. Same) (λ e. by_open e (flat (slice_get k.opens place)))
-  where
-    by_open : is_held place k.descriptors ≡ false → (o : Option Open) → Change 0 k (without_open k place o)
-    by_open e None = Same
-    by_open e (Some o) = followed k _ _ (OpenGoes place e) (target_swept _ o.target)
-
 pub closed_change : (k : KernelState) (place fd : ℕ) → Change 0 k (closed k place fd)
-unfolding closed
-closed_change k place fd = by_place (description_at k.descriptors place fd)
+unfolding closed released
+closed_change k place fd = by_place (description_at k.descriptors place fd) refl
   where
-    by_place : (d : Option ℕ) → Change 0 k (closed_as k place fd d)
-    by_place None = Same
-    by_place (Some d) = followed k _ _ (Closes place fd) (released_change _ d)
+    by_open : (d : ℕ) → flat (slice_get k.descriptors (per_group * place + fd)) ≡ Some d → is_held d (set_descriptor k.descriptors place fd None) ≡ false → (o : Option Open) → flat (slice_get k.opens d) ≡ o
+        → Change 0 k (without_open (record k { descriptors = set_descriptor k.descriptors place fd None }) d o)
+    by_open d there e None f = Closes place fd d (inr f) there
+    by_open d there e (Some o) f = followed k _ _ (ClosesLast place fd d e there) (target_swept _ o.target)
+
+    by_place : (d : Option ℕ) → description_at k.descriptors place fd ≡ d → Change 0 k (closed_as k place fd d)
+    by_place None e = Same
+    by_place (Some d) e =
+        let there = ap flat (descriptor_stands k.descriptors place fd d e) in
+        test_change k (is_held d (set_descriptor k.descriptors place fd None)) _ _ (λ h. Closes place fd d (inl h) there) (λ h. by_open d there h (flat (slice_get k.opens d)) refl)
 
 pub all_closed_change : (n fd place : ℕ) (k : KernelState) → Change 0 k (closed_from n fd place k)
 all_closed_change zero fd place k = Same
@@ -108,12 +111,12 @@ opened_stands k place fd o e = by_place (description_at k.descriptors place fd) 
 
 -- ---- descriptions
 
-pub describes : (k l : KernelState) (c : Caller) (to : Target) (flags : ℕ) → Change 0 k l → Made k (describe_new k l c to flags)
-describes k l c to flags a = by_descriptor (free_descriptor l.descriptors c.place) refl
+pub describes : (k l : KernelState) (c : Caller) (to : Target) (flags : ℕ) → flat (slice_get l.groups c.place) ≡ Some c.group → Leads l to → Change 0 k l → Made k (describe_new k l c to flags)
+describes k l c to flags lives leads a = by_descriptor (free_descriptor l.descriptors c.place) refl
   where
     by_place : (fd : ℕ) → free_descriptor l.descriptors c.place ≡ Some fd → (place : Option ℕ) → position_from is_none 0 l.opens ≡ place → Made k (describe_at k l c (record { target = to; flags = flags; offset = 0 }) fd place)
     by_place fd f None e = fails k c errno.Emfile
-    by_place fd f (Some place) e = quiet k _ (followed k l _ a (Opens c.place fd place to flags f e))
+    by_place fd f (Some place) e = quiet k _ (followed k l _ a (Opens c.place fd place to flags (record { group = c.group; lives = lives; few = (free_is_closed l.descriptors c.place fd f).0; closed = ap flat (free_is_closed l.descriptors c.place fd f).1 }) (free_is_closed l.descriptors c.place fd f).1 e leads))
 
     by_descriptor : (fd : Option ℕ) → free_descriptor l.descriptors c.place ≡ fd → Made k (describe k l c (record { target = to; flags = flags; offset = 0 }) fd)
     by_descriptor None f = fails k c errno.Emfile

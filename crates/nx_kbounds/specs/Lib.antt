@@ -1,3 +1,4 @@
 pub mod Shortness
 pub mod Counts
 pub mod Laws
+pub mod Leading

@@ -1,5 +1,6 @@
 ghost use Rattle.nx_kbounds.specs.Counts.{IsFew, IsTimely};
 ghost use Rattle.nx_kbounds.specs.Shortness.{IsShort};
+ghost use Rattle.nx_kbounds.specs.Leading.{BootIsLed, CallsStayLed, ChoicesStayLed, EndsStayLed, DescriptionsAreFew};
 ghost use Rattle.nx_kbounds.specs.Laws.{CallsKeep, ChoicesKeep, EndsKeep, BootTakesPlaces, CallsTakeNone, ChoicesTakeNone, EndsTakeNone, BootIsFew, GroupsAreFew, BootIsTimely, BootIsShort};
 
 /// A law: each table keeps the places that boot gave it, so none ever takes memory. Boot gives as
@@ -47,4 +48,17 @@ pub fn what_is_kept_is_short()
     ensures call { CallsKeep IsShort }
     ensures choice { ChoicesKeep IsShort }
     ensures end { EndsKeep IsShort }
+{}
+
+/// A law: nothing leads to what isn't there, where each path of a file or queue leads to one that
+/// lives. Open descriptors are of live groups, and lead to descriptions that stand; each description
+/// has a descriptor; files, queues and semaphores that descriptions lead to, and queues and
+/// semaphores that threads wait for, stand. So there are no more descriptions than 32 for each live
+/// group.
+pub fn nothing_leads_nowhere()
+    ensures boot { BootIsLed }
+    ensures call { CallsStayLed }
+    ensures choice { ChoicesStayLed }
+    ensures end { EndsStayLed }
+    ensures few { DescriptionsAreFew }
 {}
