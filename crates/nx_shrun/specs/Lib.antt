@@ -1,0 +1,15 @@
+pub mod Builtins
+pub mod Calls
+pub mod Texts
+pub mod Expansion
+pub mod Numbers
+pub mod Tests
+pub mod Steps
+pub mod Table
+pub mod Rest
+pub mod ShellCalls
+pub mod Laws
+pub mod Runs
+pub mod Systems
+pub mod AbstractRuns
+pub mod AbstractLaws

@@ -1,0 +1,19 @@
+//! What the shell calls: its commands, and its place in a script.
+//! `specs/Table.antt` has the commands, `specs/Steps.antt` what each of their steps calls, and
+//! `specs/ShellCalls.antt` all calls of a script.
+#![tactic(auto)]
+
+mod builtin;
+mod expression;
+mod laws;
+mod number;
+mod step;
+mod text;
+
+pub use builtin::Builtin;
+pub use laws::{
+    a_reply_brings_one_call, a_script_begins_with_getpid, a_script_runs_by_its_grammar,
+    an_abstract_run_that_is_over_stays, an_abstract_step_makes_at_most_one_call,
+    the_shell_makes_well_formed_calls,
+};
+pub use step::{Awaits, Change, Ending, Listing, Step, Test, Wanted};
