@@ -1,0 +1,59 @@
+-- What is said of the objects of C and those of slot code.
+use Rattle.std.specs.Prelude.{◌≡◌, ℕ, zero, suc, ◌+◌, ◌<◌, ◌^◌, true, false, List, [], ◌∷◌, ◌++◌, length, replicate, slice_index, slice_set, Ok}
+use Rattle.nx_checked.specs.declared.checked.Cell.TheVariants as cell
+use Rattle.nx_checked.specs.declared.checked.Element.{Element}
+use Rattle.nx_checked.specs.declared.checked.Shape.{Shape}
+use Rattle.nx_checked.specs.Frames.{bytes_of}
+use Rattle.nx_cobjects.specs.declared.value.Name.{Name}
+use Rattle.nx_cobjects.specs.declared.value.Value.{Value}
+use Rattle.nx_cobjects.specs.declared.value.Value.TheVariants as value
+use Rattle.nx_cobjects.specs.Memory.{Memory, memory, object_at, load, store, group_with, new_object, end_arrays}
+use Rattle.nx_slot.specs.declared.op.Width.TheVariants.{Word}
+use Rattle.nx_slot.specs.Objects.{object_of, has_element, element, with_element}
+use Rattle.nx_slot.specs.Objects as slot
+use Rattle.nx_slot.specs.Meaning.{without}
+use Rattle.nx_lower.specs.Shown.{counts_of, statics_in, name_of, width_of, objects_of}
+
+-- The object of slot code that stands for one of C.
+abbrev pub object_for : Memory → Name → slot.Object
+object_for m o = object_of (objects_of m) (name_of (counts_of m.group) o)
+
+-- An element that C reads is there, and is the same number.
+pub record ReadsSame (m : Memory) (w : Element) (o : Name) (at : ℕ) (v : Value) : Type 0 where
+  pub there : has_element (object_for m o) (width_of w) at ≡ true
+  pub same : v ≡ value.Int (element (width_of w) (object_for m o) at)
+
+abbrev pub LoadsAlike : Type 0
+LoadsAlike = (m : Memory) (w : Element) (o : Name) (at : ℕ) (v : Value) → (object_at m o).element ≡ w → load m w (value.Point o at) ≡ Ok v → ReadsSame m w o at v
+
+-- What C stores is stored there too, and nothing else changes.
+pub record WritesSame (m : Memory) (w : Element) (o : Name) (at n : ℕ) (new : Memory) : Type 0 where
+  pub there : has_element (object_for m o) (width_of w) at ≡ true
+  pub free : (object_for m o).fixed ≡ false
+  pub counts : counts_of new.group ≡ counts_of m.group
+  pub objects : slice_set (objects_of m) (name_of (counts_of m.group) o) (with_element (width_of w) (object_for m o) at n) ≡ objects_of new
+
+abbrev pub StoresAlike : Type 0
+StoresAlike = (m : Memory) (w : Element) (o : Name) (at n : ℕ) (new : Memory) → (object_at m o).element ≡ w → store m w (value.Point o at) n ≡ Ok new → WritesSame m w o at n new
+
+-- A variable of the file is an object of one word.
+pub record VariableSame (m : Memory) (i n : ℕ) : Type 0 where
+  pub there : has_element (object_of (objects_of m) i) Word 0 ≡ true
+  pub free : (object_of (objects_of m) i).fixed ≡ false
+  pub reads : slice_index m.group.scalars i < 2 ^ 32 → element Word (object_of (objects_of m) i) 0 ≡ slice_index m.group.scalars i
+  pub writes : slice_set (objects_of m) i (with_element Word (object_of (objects_of m) i) 0 n) ≡ objects_of (memory (group_with m.group (cell.Global i) (value.Int n)) m.own)
+
+abbrev pub VariablesAlike : Type 0
+VariablesAlike = (m : Memory) (i n : ℕ) → i < length m.group.scalars → VariableSame m i n
+
+-- A new array is the next object, and arrays that end are without bytes in both.
+abbrev pub ArraysAlike : Type 0
+ArraysAlike = (m : Memory) (s : Shape) → objects_of (memory m.group (m.own ++ new_object s ∷ [])) ≡ objects_of m ++ record { bytes = replicate (bytes_of s) 0; width = width_of s.element; fixed = false } ∷ []
+
+-- So many names from one on.
+abbrev pub names_from : ℕ → ℕ → List ℕ
+names_from i zero = []
+names_from i (suc k) = i ∷ names_from (i + 1) k
+
+abbrev pub EndsAlike : Type 0
+EndsAlike = (m : Memory) (from k : ℕ) → objects_of (memory m.group (end_arrays m.own from k)) ≡ without (names_from (statics_in (counts_of m.group) + from) k) (objects_of m)

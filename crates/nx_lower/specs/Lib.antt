@@ -1,0 +1,4 @@
+pub mod Shown
+pub mod Code
+pub mod Bodies
+pub mod Laws

@@ -1,0 +1,19 @@
+ghost use Rattle.nx_lower.specs.Laws.{LoadsAlike, StoresAlike, VariablesAlike, ArraysAlike, EndsAlike};
+
+/// A law: where C reads an element, slot code reads the same number, and where C stores one, slot code stores it, and
+/// both have the same objects after it.
+pub fn elements_are_read_and_stored_alike()
+    ensures reads { LoadsAlike }
+    ensures stores { StoresAlike }
+{}
+
+/// A law: a variable of the file is an object of one word, which is read and written as the variable is.
+pub fn a_word_of_slot_code_is_a_variable()
+    ensures { VariablesAlike }
+{}
+
+/// A law: a new array is the next object of both, and when a call is over its arrays end in both.
+pub fn arrays_begin_and_end_alike()
+    ensures begins { ArraysAlike }
+    ensures ends { EndsAlike }
+{}
