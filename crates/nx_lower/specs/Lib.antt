@@ -2,3 +2,4 @@ pub mod Shown
 pub mod Code
 pub mod Bodies
 pub mod Laws
+pub mod Sound

@@ -1,0 +1,61 @@
+-- Checked expressions whose names there are, and whose calls have as many arguments as parameters.
+use Rattle.std.specs.Prelude.{◌≡◌, ℕ, ◌<◌, length, Some, slice_get}
+use Rattle.nx_checked.specs.declared.checked.Cell.{Cell}
+use Rattle.nx_checked.specs.declared.checked.Cell.TheVariants as cell
+use Rattle.nx_checked.specs.declared.checked.ArrayName.{ArrayName}
+use Rattle.nx_checked.specs.declared.checked.ArrayName.TheVariants as array
+use Rattle.nx_checked.specs.declared.checked.UsedCall.{UsedCall}
+use Rattle.nx_checked.specs.Trees.{Expr, Constant, Literal, Function, Read, Array, Load, AddressOf, Unary, Binary, And, Or, Conditional, Convert, Advance, AdvanceBy, Retreat, Assign, AssignElement, Compound, CompoundElement, Step, StepElement, Kernel, Call, Place, Index, Deref, Args, NoMore, More, count}
+use Rattle.nx_cmean.specs.Meaning.{fun_at}
+use Rattle.nx_lower.specs.Code.{Source}
+
+-- How many cells of variables a call has, and how many of its arrays are made.
+pub record Stage : Type 0 where
+  pub cells : ℕ
+  pub made : ℕ
+
+abbrev pub IsCell : Source → Stage → Cell → Type 0
+IsCell s z (cell.Local i) = i < z.cells
+IsCell s z (cell.Global i) = i < s.scalars
+
+abbrev pub IsArray : Source → Stage → ArrayName → Type 0
+IsArray s z (array.Local i) = i < z.made
+IsArray s z (array.Global i) = i < length s.arrays
+
+abbrev pub IsCall : Source → ℕ → ℕ → Type 0
+IsCall s k n = (c : UsedCall) × (slice_get s.program.calls k ≡ Some c) × (length c.kinds ≡ n)
+
+abbrev mutual
+  pub SoundExpr : Source → Stage → Expr → Type 0
+  SoundExpr s z (Constant n) = Unit {0}
+  SoundExpr s z (Literal i) = i < length s.texts
+  SoundExpr s z (Function f) = f < length s.program.functions
+  SoundExpr s z (Read x) = IsCell s z x
+  SoundExpr s z (Array a) = IsArray s z a
+  SoundExpr s z (Load w p) = SoundPlace s z p
+  SoundExpr s z (AddressOf w a i) = SoundExpr s z a × SoundExpr s z i
+  SoundExpr s z (Unary o a) = SoundExpr s z a
+  SoundExpr s z (Binary o a b) = SoundExpr s z a × SoundExpr s z b
+  SoundExpr s z (And a b) = SoundExpr s z a × SoundExpr s z b
+  SoundExpr s z (Or a b) = SoundExpr s z a × SoundExpr s z b
+  SoundExpr s z (Conditional c a b) = SoundExpr s z c × SoundExpr s z a × SoundExpr s z b
+  SoundExpr s z (Convert to a) = SoundExpr s z a
+  SoundExpr s z (Advance w a i) = SoundExpr s z a × SoundExpr s z i
+  SoundExpr s z (AdvanceBy w i a) = SoundExpr s z i × SoundExpr s z a
+  SoundExpr s z (Retreat w a i) = SoundExpr s z a × SoundExpr s z i
+  SoundExpr s z (Assign t x e) = IsCell s z x × SoundExpr s z e
+  SoundExpr s z (AssignElement w p e) = SoundPlace s z p × SoundExpr s z e
+  SoundExpr s z (Compound o t x e) = IsCell s z x × SoundExpr s z e
+  SoundExpr s z (CompoundElement o w p e) = SoundPlace s z p × SoundExpr s z e
+  SoundExpr s z (Step v up t x) = IsCell s z x
+  SoundExpr s z (StepElement v up w p) = SoundPlace s z p
+  SoundExpr s z (Kernel k xs) = IsCall s k (count xs) × SoundArgs s z xs
+  SoundExpr s z (Call f xs) = (f < length s.program.functions) × (count xs ≡ length (fun_at s.program f).params) × SoundArgs s z xs
+
+  pub SoundPlace : Source → Stage → Place → Type 0
+  SoundPlace s z (Index a i) = SoundExpr s z a × SoundExpr s z i
+  SoundPlace s z (Deref a) = SoundExpr s z a
+
+  pub SoundArgs : Source → Stage → Args → Type 0
+  SoundArgs s z NoMore = Unit {0}
+  SoundArgs s z (More e xs) = SoundExpr s z e × SoundArgs s z xs
