@@ -42,12 +42,12 @@ use Rattle.nx_lower.proofs.Lies.{plain, item_lies, Lies}
 use Rattle.nx_lower.proofs.Operands.{IsNumber, Points, number_shown, operated_same, minus_same, low_same, not_same, truth_same, complement_same, moved_same, names_get}
 
 -- What waits in its cell.
-plain_alike : (s : Source) (top : Top) (locals vs : List Value) (cells : List slot.Value) (P : Type 0) → plain top P → Tops (counts s) top locals vs cells → (alike : AreAlike (counts s) locals vs cells) × P
+pub plain_alike : (s : Source) (top : Top) (locals vs : List Value) (cells : List slot.Value) (P : Type 0) → plain top P → Tops (counts s) top locals vs cells → (alike : AreAlike (counts s) locals vs cells) × P
 plain_alike s Plain locals vs cells P h a = (a, h)
 plain_alike s (Fixed n) locals vs cells P h a = absurd h
 
 -- The values below the last one are in their cells.
-rest_alike : (s : Source) (top : Top) (locals vs : List Value) (v : Value) (cells : List slot.Value) → Tops (counts s) top locals (v ∷ vs) cells → AreAlike (counts s) locals vs cells
+pub rest_alike : (s : Source) (top : Top) (locals vs : List Value) (v : Value) (cells : List slot.Value) → Tops (counts s) top locals (v ∷ vs) cells → AreAlike (counts s) locals vs cells
 rest_alike s Plain locals vs v cells a = alike_pop (counts s) locals vs cells v a
 rest_alike s (Fixed n) locals vs v cells a = a.1
 
@@ -214,7 +214,7 @@ module _ (s : Source) (p : Code) (f back exit from arrays made wants : ℕ) (nam
         paid = omega (arith, cheap);
       }
 
-  loaded_does : (r : Result Value WrongKind) (v : Value) (m : Memory) (w : Element) (locals vs old : List Value) (k : List Item) (start : SlotState) (cells : List slot.Value) (pc cost turns o j : ℕ) → load m w v ≡ r → counts_of m.group ≡ counts s → Points m w v
+  pub loaded_does : (r : Result Value WrongKind) (v : Value) (m : Memory) (w : Element) (locals vs old : List Value) (k : List Item) (start : SlotState) (cells : List slot.Value) (pc cost turns o j : ℕ) → load m w v ≡ r → counts_of m.group ≡ counts s → Points m w v
       → AreAlike (counts s) locals vs cells → length locals + length vs < limit p f → slice_get cells j ≡ Some (shown (counts s) v) → slice_get (ops_in p f) pc ≡ Some (op.Load (length locals + length vs) j (width_of w)) → cost ≤ 18
       → Leads p start (here pc cells m) cost turns → LiesOn k (pc + 1) (stage_of locals) (suc (length vs)) Plain (o + 7) → DoesTo (unchanged m (put_value (c_frame locals old k) vs r)) start o 32
   loaded_does (Err kind) v m w locals vs old k start cells pc cost turns o j e same pts a small at code cheap leads lies = tt
@@ -289,7 +289,7 @@ module _ (s : Source) (p : Code) (f back exit from arrays made wants : ℕ) (nam
   WantsApply m (between.Retreat w) x y = Points m w x × IsNumber y
   WantsApply m (between.Load w) x y = Points m w x × IsNumber y × Points m w (moved w x (int_in y))
 
-  right_number : (top : Top) (locals vs : List Value) (v : Value) (cells : List slot.Value) → IsNumber v → Tops (counts s) top locals (v ∷ vs) cells → read cells (right top (length locals + length vs)) ≡ Some (slot.Int (int_in v))
+  pub right_number : (top : Top) (locals vs : List Value) (v : Value) (cells : List slot.Value) → IsNumber v → Tops (counts s) top locals (v ∷ vs) cells → read cells (right top (length locals + length vs)) ≡ Some (slot.Int (int_in v))
   right_number top locals vs v cells w a = right_read (counts s) top locals vs v cells a ∙ ap Some (number_shown (counts s) v w)
 
   pub apply_does : (q : Infix) (m : Memory) (locals vs : List Value) (x y : Value) (k : List Item) (cells : List slot.Value) (pc o : ℕ) (top : Top) → counts_of m.group ≡ counts s → WantsApply m q x y → Tops (counts s) top locals (y ∷ x ∷ vs) cells

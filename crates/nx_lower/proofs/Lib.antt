@@ -6,3 +6,6 @@ mod Lies
 mod Spread
 mod Operands
 mod Acts
+mod Deciding
+mod Storing
+mod Rows

@@ -151,8 +151,10 @@ arguments_code (s ∷ ss) i = kept_code s i ++ arguments_code ss (i + 1)
 
 -- A compound assignment of a pointer moves it down by a negative number.
 abbrev pub negate_code : IntOperator → Scalar → ℕ → List SlotOp
+negate_code o scalar.Int i = []
+negate_code o scalar.Char i = []
 negate_code int.Subtract (scalar.Pointer w) i = op.Change unary.Negate i i ∷ []
-negate_code o t i = []
+negate_code o (scalar.Pointer w) i = []
 
 -- The code of an operand on the right: a constant needs none.
 abbrev pub right_code : Expr → List SlotOp → List SlotOp
