@@ -1,0 +1,5 @@
+pub mod Messages
+pub mod Choosing
+pub mod Joins
+pub mod Rows
+pub mod Blocks
