@@ -42,6 +42,10 @@ abbrev pub target_of : Variable → Target
 target_of (variable.Scalar x h) = target.Cell x h
 target_of (variable.Array a s) = target.Array
 
+-- A number.
+abbrev pub number : ℕ → Typed
+number n = record { gives = type.Int; tree = expr.Constant n }
+
 -- The bytes of a variable, as a number of 32 bits.
 abbrev pub scalar_bytes : Scalar → ℕ
 scalar_bytes scalar.Int = 4

@@ -1,10 +1,10 @@
-//! Names and types of C programs: which programs are well typed, what they do, and else which
-//! fault comes first.
+//! What names stand for at a place of a C file, and what a file uses so far.
 #![tactic(auto)]
 
 mod lookups;
 mod names;
 mod used;
 
+pub use lookups::{name_entry, name_place, name_size, name_value, number};
 pub use names::{Functions, Names, Variable, Variables};
-pub use used::Used;
+pub use used::{Used, enter, place_in};

@@ -8,9 +8,9 @@ ghost use Rattle.nx_ctype.specs.Lookups.{
   target_of as target_of_variable,
   bytes_in as bytes_in_variable,
   entry_rule,
+  number as number_of,
 };
 ghost use Rattle.nx_crules.specs.Answers.{at};
-ghost use Rattle.nx_ctype.specs.Verdicts.{number as number_of};
 
 use crate::names::{Names, Variable};
 use nx_checked::{CheckedExpr, Element, Scalar, Shape};
@@ -40,7 +40,7 @@ impl Names {
 }
 
 /// A number of 32 bits.
-pub(crate) fn number(value: u32) -> Typed
+pub fn number(value: u32) -> Typed
     ensures { result ≡ number_of value }
 {
     Typed {
@@ -101,7 +101,7 @@ fn bytes_in(variable: Variable) -> u32
 }
 
 /// A name as a value.
-pub(crate) fn name_value(names: &Names, line: u32, name: &[u8]) -> Result<Typed, CFault>
+pub fn name_value(names: &Names, line: u32, name: &[u8]) -> Result<Typed, CFault>
     ensures { result ≡ at line (found value_of_variable (missing_name names.now name.now) (variable_of names.now name.now)) }
 {
     match names.variable(name) {
@@ -114,7 +114,7 @@ pub(crate) fn name_value(names: &Names, line: u32, name: &[u8]) -> Result<Typed,
 }
 
 /// A name as the operand of `sizeof`.
-pub(crate) fn name_size(names: &Names, line: u32, name: &[u8]) -> Result<Typed, CFault>
+pub fn name_size(names: &Names, line: u32, name: &[u8]) -> Result<Typed, CFault>
     ensures { result ≡ at line (found (λ v. number_of (bytes_in_variable v)) (missing_name names.now name.now) (variable_of names.now name.now)) }
 {
     match names.variable(name) {
@@ -127,7 +127,7 @@ pub(crate) fn name_size(names: &Names, line: u32, name: &[u8]) -> Result<Typed, 
 }
 
 /// A name as a place.
-pub(crate) fn name_place(names: &Names, line: u32, name: &[u8]) -> Result<Target, CFault>
+pub fn name_place(names: &Names, line: u32, name: &[u8]) -> Result<Target, CFault>
     ensures { result ≡ at line (found target_of_variable (missing_name names.now name.now) (variable_of names.now name.now)) }
 {
     match names.variable(name) {
@@ -140,7 +140,7 @@ pub(crate) fn name_place(names: &Names, line: u32, name: &[u8]) -> Result<Target
 }
 
 /// A name as the first argument of the call that starts a thread.
-pub(crate) fn name_entry(names: &Names, line: u32, name: &[u8]) -> Result<Typed, CFault>
+pub fn name_entry(names: &Names, line: u32, name: &[u8]) -> Result<Typed, CFault>
     ensures { result ≡ at line (entry_rule names.now name.now) }
 {
     if names.locals.get(name).is_some() {

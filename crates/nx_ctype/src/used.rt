@@ -24,7 +24,7 @@ fn place_among(calls: &[usize], row: usize) -> Option<usize>
 }
 
 /// The place of a call among those that are used. It is added where it isn't there yet.
-pub(crate) fn enter(calls: &mut Items<usize>, row: usize) -> Result<u32, AllocError>
+pub fn enter(calls: &mut Items<usize>, row: usize) -> Result<u32, AllocError>
     ensures { IfOk result (λ k. entered row calls.old ≡ (k, calls.new)) }
 {
     match place_among(calls.as_slice(), row) {
@@ -43,7 +43,7 @@ pub(crate) fn enter(calls: &mut Items<usize>, row: usize) -> Result<u32, AllocEr
 }
 
 /// The place of a name in the call table.
-pub(crate) fn place_in(rows: &[CallRow], name: &[u8]) -> Option<usize>
+pub fn place_in(rows: &[CallRow], name: &[u8]) -> Option<usize>
     ensures { result ≡ position (λ row. bytes_eq name.now row.name) rows.now }
 {
     rows.iter().position(|row| name == row.name.as_slice())

@@ -1,0 +1,4 @@
+pub mod Trees
+pub mod Checks
+pub mod Verdicts
+pub mod HasTypes
