@@ -1,0 +1,7 @@
+//! What expressions of C programs are made of: primary and unary ones, and what can be written to.
+//! Each function takes what reads the parts: a closure that reads an expression of a level,
+//! with at most so many nodes on a path. How they are read stands in `nx_cexpr`'s definitions.
+#![tactic(auto)]
+
+pub mod below;
+pub mod primary;
