@@ -26,14 +26,14 @@ use Rattle.nx_shrun.specs.declared.step.Awaits.TheVariants as awaits
 use Rattle.nx_shrun.specs.Builtins.{builtin_named}
 use Rattle.nx_shrun.specs.Calls as c
 use Rattle.nx_shrun.specs.Calls.{Call, Fits, IsWellFormed, is_failed, handed, code_of}
-use Rattle.nx_shrun.specs.Texts.{word_at, arguments, line, spaced, lines, bad_arguments, line_too_long}
+use Rattle.nx_shrun.specs.Texts.{word_at, arguments, all_but_last, last_of, line, spaced, lines, bad_arguments, line_too_long}
 use Rattle.nx_shrun.specs.Expansion.{Piece, Of, Ends, Spread, Whole, Wants, spread, all_pieces}
 use Rattle.nx_shrun.specs.Numbers.{number}
 use Rattle.nx_shrun.specs.Tests.{test_of}
 use Rattle.nx_shrun.specs.Steps.{Running, Doing, Starts, Asks, Does, Outcome, Over, Goes, go, say, put, fail, abandon, opens, below, without_second, listed, probed, listing_call, flags_of, call_at, unless_failed, unless_short, written, not_started, restoring, next_index, entry, ends, after_step, after_reply}
 use Rattle.nx_shrun.specs.Table.{Body, body, cats, tested, in_brackets, tested_in, sleeps, leaves, opening, closing, awaited, program, running, refused, built_in, does_command, is_long, is_too_long, begun_with}
 use Rattle.nx_shrun.specs.ShellCalls as s
-use Rattle.nx_shrun.specs.ShellCalls.{Shell, Ended, answered, call_made, call_of, value_of, command, expanded, with_words, all_but_last, last_of, comes, comes_after, goes_on, calls_from, started, shell_calls}
+use Rattle.nx_shrun.specs.ShellCalls.{Shell, Ended, answered, call_made, call_of, value_of, command, expanded, with_words, comes, comes_after, goes_on, calls_from, started, shell_calls}
 use Rattle.nx_shrun.specs.Rest.{next, Next, Over as NoMore, Runs}
 use Rattle.nx_shrun.specs.Laws.{IsOrdinary, AllFit, IsShellCall, Goes as OrdinaryCall, Ends as LastCall, AreShellCalls, CallsAreWellFormed}
 use Rattle.nx_shrun.proofs.Bounded.{if_le, append_le, line_le, each_short, echo_le, path_le, announcement_le, failure_le, bad_le, missing_le, long_le, handed_le}

@@ -13,3 +13,6 @@ pub mod Runs
 pub mod Systems
 pub mod AbstractRuns
 pub mod AbstractLaws
+pub mod Rooms
+pub mod Puts
+pub mod Places

@@ -9,21 +9,11 @@ use Rattle.nx_shrun.specs.declared.step.Ending.TheVariants.{Status, Exit}
 use Rattle.nx_shrun.specs.Calls.{Call, getpid, getenv, exit, is_failed, handed}
 use Rattle.nx_shrun.specs.Expansion.{Spread, Whole, Wants, all_pieces, spread}
 use Rattle.nx_shrun.specs.Steps.{Doing, Starts, Asks, Does, Outcome, Over, Goes, after_reply}
+use Rattle.nx_shrun.specs.Texts.{all_but_last, last_of}
 use Rattle.nx_shrun.specs.Table.{begun_with}
 use Rattle.nx_shrun.specs.Rest.{Next, Over as NoMore, Runs, next}
 
--- The words of a command with a redirection end with that of its file.
-abbrev pub all_but_last : List (List ℕ) → List (List ℕ)
-all_but_last [] = []
-all_but_last (w ∷ []) = []
-all_but_last (w ∷ v ∷ ws) = w ∷ all_but_last (v ∷ ws)
-
-abbrev pub last_of : List (List ℕ) → List ℕ
-last_of [] = []
-last_of (w ∷ []) = w
-last_of (w ∷ v ∷ ws) = last_of (v ∷ ws)
-
--- What a command does once its words are known.
+-- What a command does once its words are known. With a redirection the last word is that of its file.
 abbrev pub with_words : Option Redirection → Bool → ℕ → List (List ℕ) → Outcome
 with_words None background status words = begun_with None background status words []
 with_words (Some r) background status words = begun_with (Some r.mode) background status (all_but_last words) (last_of words)

@@ -15,7 +15,7 @@ use Rattle.nx_shrun.specs.declared.step.Test.TheVariants.{Malformed, Known, Path
 use Rattle.nx_shrun.specs.declared.step.Step.{Step}
 use Rattle.nx_shrun.specs.declared.step.Step.TheVariants as step
 use Rattle.nx_shrun.specs.Builtins.{builtin_named}
-use Rattle.nx_shrun.specs.Texts.{word_at, arguments, spaced, lines, bad_arguments, line_too_long}
+use Rattle.nx_shrun.specs.Texts.{word_at, arguments, all_but_last, last_of, spaced, lines, bad_arguments, line_too_long}
 use Rattle.nx_shrun.specs.Numbers.{number}
 use Rattle.nx_shrun.specs.Tests.{test_of}
 use Rattle.nx_shrun.specs.Steps.{Running, Outcome, go, say, status_of}
@@ -51,13 +51,7 @@ tested (Path want isnt) = does (step.Probe want isnt ∷ [])
 
 -- The words before a last `]`.
 abbrev pub in_brackets : List (List ℕ) → Option (List (List ℕ))
-in_brackets [] = None
-in_brackets (w ∷ []) = if bytes_eq w (codes "]") then Some [] else None
-in_brackets (w ∷ v ∷ ws) = with_first w (in_brackets (v ∷ ws))
-  where
-    with_first : List ℕ → Option (List (List ℕ)) → Option (List (List ℕ))
-    with_first w None = None
-    with_first w (Some ws) = Some (w ∷ ws)
+in_brackets words = if bytes_eq (last_of words) (codes "]") then Some (all_but_last words) else None
 
 abbrev pub tested_in : Option (List (List ℕ)) → Option Body
 tested_in None = None

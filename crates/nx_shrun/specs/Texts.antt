@@ -12,6 +12,17 @@ word_at words place = input_at words place
 abbrev pub arguments : List (List ℕ) → List (List ℕ)
 arguments words = drop 1 words
 
+-- The words before the last, and the last.
+abbrev pub all_but_last : List (List ℕ) → List (List ℕ)
+all_but_last [] = []
+all_but_last (w ∷ []) = []
+all_but_last (w ∷ v ∷ ws) = w ∷ all_but_last (v ∷ ws)
+
+abbrev pub last_of : List (List ℕ) → List ℕ
+last_of [] = []
+last_of (w ∷ []) = w
+last_of (w ∷ v ∷ ws) = last_of (v ∷ ws)
+
 -- Words with a space between.
 unfoldable pub spaced : List (List ℕ) → List ℕ
 spaced [] = []

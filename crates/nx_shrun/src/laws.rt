@@ -1,4 +1,5 @@
 ghost use Rattle.nx_shrun.specs.Laws.{FirstCallIsGetpid, EmptyScriptsEnd, OneCallForEachReply, EarlierCallsStay, LastIsMade, CallsAreWellFormed};
+ghost use Rattle.nx_shrun.specs.Places.{NextStands};
 ghost use Rattle.nx_shrun.specs.Runs.{ScriptsRunByTheirGrammar};
 ghost use Rattle.nx_shrun.specs.AbstractLaws.{StepsMakeOneCall, OverRunsStay};
 
@@ -44,4 +45,11 @@ pub fn an_abstract_step_makes_at_most_one_call<G, T, W>()
 #[tactic(auto, using(crate::proofs::AbstractSteps::over_stays))]
 pub fn an_abstract_run_that_is_over_stays<G, T, W>()
     ensures { OverRunsStay G T W }
+{}
+
+/// A law: at a place of a table where a list is coded, the command that comes next stands, with the
+/// places of what remains behind it.
+#[tactic(auto, using(crate::proofs::Placed::stands))]
+pub(crate) fn the_next_command_stands_at_its_place()
+    ensures { NextStands }
 {}

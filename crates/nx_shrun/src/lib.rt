@@ -7,8 +7,12 @@ mod builtin;
 mod expression;
 mod laws;
 mod number;
+mod place;
 mod step;
+mod steps;
+mod table;
 mod text;
+mod words;
 
 pub use builtin::Builtin;
 pub use laws::{
@@ -17,3 +21,6 @@ pub use laws::{
     the_shell_makes_well_formed_calls,
 };
 pub use step::{Awaits, Change, Ending, Listing, Step, Test, Wanted};
+
+#[cfg(test)]
+mod tests;
