@@ -1,27 +1,26 @@
 -- Slot code decides as C does: after the left side of `&&` and `||`, and after the test of `?:`.
-use Rattle.std.proofs.Common.{◌≡◌, ℕ, zero, suc, ◌+◌, ◌<◌, ◌≤◌, Bool, true, false, List, [], ◌∷◌, ◌++◌, length, Option, Some, None, refl, sym, ap, ◌∙◌, subst, arith, length-append}
+use Rattle.std.proofs.Common.{◌≡◌, ℕ, zero, suc, ◌+◌, ◌≤◌, true, false, List, [], ◌∷◌, length, Some, refl, ap, ◌∙◌, subst, arith}
 use Rattle.std.specs.Prelude.{slice_get, if◌then◌else◌}
 use Rattle.std.proofs.lemmas.Bool.Decides.{nat_tests}
 use Rattle.nx_checked.specs.Trees.{Expr}
 use Rattle.nx_cobjects.specs.declared.value.Value.{Value}
-use Rattle.nx_cobjects.specs.declared.value.Value.TheVariants as value
 use Rattle.nx_cobjects.specs.declared.value.Prefix.TheVariants as before
 use Rattle.nx_cobjects.specs.Values.{int_in}
 use Rattle.nx_cobjects.specs.Memory.{Memory}
 use Rattle.nx_cmean.specs.Items.{Item, Alter, AndThen, OrElse, Choose, Chosen, Called, Reached, Forget, items_then}
-use Rattle.nx_cmean.specs.Meaning.{Frame, Changed, changed, zero_or, with_todo, decided_frame, stored}
+use Rattle.nx_cmean.specs.Meaning.{Frame, Changed, changed, zero_or, decided_frame, stored}
 use Rattle.nx_slot.specs.declared.op.Operand.TheVariants as operand
 use Rattle.nx_slot.specs.declared.op.Comparison.TheVariants as compare
 use Rattle.nx_slot.specs.declared.op.SlotOp.TheVariants as op
 use Rattle.nx_slot.specs.Objects.{holds}
 use Rattle.nx_slot.specs.Objects as slot
 use Rattle.nx_slot.specs.Meaning.{Code, SlotFrame, SlotState}
-use Rattle.nx_lower.specs.Shown.{counts_of, shown, objects_of}
+use Rattle.nx_lower.specs.Shown.{counts_of, objects_of}
 use Rattle.nx_lower.specs.Code.{Source, counts, truth_code, expr_code}
 use Rattle.nx_lower.specs.Sound.{Stage}
-use Rattle.nx_lower.proofs.Cells.{Top, Plain, Fixed, Tops, AreAlike, alike_pop}
-use Rattle.nx_lower.proofs.Steps.{HasAt, has_front, has_back, Leads, leads_here, ops_in, limit, at_place, skips}
-use Rattle.nx_lower.proofs.Lies.{plain, pops, alter_code, hops_here, hop, item_lies, Lies, stands, lies_at, more}
+use Rattle.nx_lower.proofs.Cells.{Top, Plain, Tops, AreAlike, alike_pop}
+use Rattle.nx_lower.proofs.Steps.{has_front, has_back, Leads, leads_here, ops_in, skips}
+use Rattle.nx_lower.proofs.Lies.{hops_here, hop, item_lies, Lies, stands, more}
 use Rattle.nx_lower.proofs.Spread.{expr_lies}
 use Rattle.nx_lower.proofs.Operands.{IsNumber, number_shown}
 use Rattle.nx_lower.proofs.Acts.{plain_alike, c_frame, stage_of, here, Did, DoesTo}

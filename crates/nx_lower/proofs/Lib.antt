@@ -9,3 +9,4 @@ mod Acts
 mod Deciding
 mod Storing
 mod Rows
+mod Stepping

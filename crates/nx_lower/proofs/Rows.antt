@@ -1,5 +1,5 @@
 -- Small programs give the same as their slot code. A cost is at most 64 times the steps.
-use Rattle.std.proofs.Common.{◌≡◌, ℕ, ◌+◌, ◌*◌, Bool, true, false, List, [], ◌∷◌, Option, Some, None, refl}
+use Rattle.std.proofs.Common.{◌≡◌, ℕ, ◌*◌, true, false, List, [], ◌∷◌, Option, Some, None, refl}
 use Rattle.std.specs.Prelude.{nat_le}
 use Rattle.nx_base.specs.ByteLists.{get_bytes, put_bytes, from_le, to_le}
 use Rattle.nx_base.specs.Arithmetic.{alu_of}
@@ -11,15 +11,15 @@ use Rattle.nx_checked.specs.declared.checked.Scalar.{Scalar}
 use Rattle.nx_checked.specs.declared.checked.Scalar.TheVariants as scalar
 use Rattle.nx_checked.specs.declared.checked.Shape.{Shape}
 use Rattle.nx_checked.specs.declared.checked.IntOperator.TheVariants.{Add, Less, Multiply}
-use Rattle.nx_checked.specs.declared.checked.StepValue.TheVariants.{New, Old}
-use Rattle.nx_checked.specs.Trees.{Expr, Constant, Array, Read, And, Or, Binary, Conditional, Load, Assign, AssignElement, Compound, CompoundElement, Step, StepElement, Call, Place, Index, NoMore, More, Stmt, Run, Return, If, IfElse, Break, Continue, While, Do, For, Stmts, Block, Done, Then, Fun, Program}
+use Rattle.nx_checked.specs.declared.checked.StepValue.TheVariants.{Old}
+use Rattle.nx_checked.specs.Trees.{Expr, Constant, Array, Read, And, Or, Binary, Conditional, Load, Assign, AssignElement, Compound, CompoundElement, Step, StepElement, Call, Index, NoMore, More, Run, Return, If, IfElse, Break, Continue, While, Do, For, Stmts, Block, Done, Then, Fun, Program}
 use Rattle.nx_cobjects.specs.Groups.{Group}
 use Rattle.nx_cmean.specs.Meaning.{Thread, step, first_thread}
-use Rattle.nx_cmean.specs.Meanings.{Reach, Still, Calls, Over, Full, Astray, run_of}
+use Rattle.nx_cmean.specs.Meanings.{Reach, Over, run_of}
 use Rattle.nx_cmean.specs.Runs.{need, turn_of, first_word}
 use Rattle.nx_slot.specs.Objects.{object_of, has_element, element, with_element, holds, binary, unary}
-use Rattle.nx_slot.specs.Meaning.{Code, put, cells_from, may_write, may_hand}
-use Rattle.nx_slot.specs.Runs.{SlotReach, Going, Requested, Finished, Overflowed, Failed, then_on, run, begun}
+use Rattle.nx_slot.specs.Meaning.{put, cells_from, may_write, may_hand}
+use Rattle.nx_slot.specs.Runs.{SlotReach, Finished, then_on, run, begun}
 use Rattle.nx_lower.specs.Shown.{statics_of}
 use Rattle.nx_lower.specs.Code.{Source}
 use Rattle.nx_lower.specs.Bodies.{fun_code, code_of}

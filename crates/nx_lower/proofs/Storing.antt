@@ -1,5 +1,5 @@
 -- Slot code follows assignments, and the reads that stand before compound ones.
-use Rattle.std.proofs.Common.{◌≡◌, ℕ, zero, suc, ◌+◌, ◌%◌, ◌<◌, ◌≤◌, Bool, true, false, List, [], ◌∷◌, ◌++◌, length, Option, Some, None, refl, sym, ap, ◌∙◌, subst, arith, length-append, append_assoc}
+use Rattle.std.proofs.Common.{◌≡◌, ℕ, suc, ◌+◌, ◌%◌, ◌<◌, ◌≤◌, true, false, List, [], ◌∷◌, ◌++◌, length, Some, refl, sym, ap, ◌∙◌, subst, arith, length-append, append_assoc}
 use Rattle.std.specs.Prelude.{slice_get, slice_set, Result, Ok, Err}
 use Rattle.std.proofs.lemmas.List.{length-set}
 use Rattle.nx_checked.specs.declared.checked.Cell.{Cell}
@@ -21,7 +21,6 @@ use Rattle.nx_cmean.specs.Items.{Item, Write, Raise, Fetch, FetchAt, Lay, Lift}
 use Rattle.nx_cmean.specs.Meaning.{Frame, Changed, changed, raised, then_value, stored}
 use Rattle.nx_slot.specs.declared.op.Operand.TheVariants as operand
 use Rattle.nx_slot.specs.declared.op.Unary.TheVariants as unary_op
-use Rattle.nx_slot.specs.declared.op.Width.TheVariants.{Word}
 use Rattle.nx_slot.specs.declared.op.SlotOp.TheVariants as op
 use Rattle.nx_slot.specs.Objects.{object_of, has_element}
 use Rattle.nx_slot.specs.Objects as slot
@@ -31,7 +30,7 @@ use Rattle.nx_lower.specs.Code.{Source, counts, binary_of, scalar_object, write_
 use Rattle.nx_lower.specs.Sound.{Stage, IsCell}
 use Rattle.nx_lower.proofs.Objects.{variables}
 use Rattle.nx_lower.proofs.Objects.{stores as stores_alike}
-use Rattle.nx_lower.proofs.Cells.{Top, Plain, Fixed, Tops, AreAlike, right, alike_pop, alike_top, alike_write}
+use Rattle.nx_lower.proofs.Cells.{Top, Plain, Tops, AreAlike, right, alike_pop, alike_top, alike_write}
 use Rattle.nx_lower.proofs.Steps.{HasAt, has_front, has_back, Leads, leads_here, leads_on, ops_in, limit, at_place, May, moves, applies, changes, keeps, stores, indexes}
 use Rattle.nx_lower.proofs.Lies.{item_lies, Lies}
 use Rattle.nx_lower.proofs.Operands.{IsNumber, Points, number_shown, operated_same, minus_same, low_same, moved_same}
