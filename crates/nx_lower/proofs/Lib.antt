@@ -10,3 +10,4 @@ mod Deciding
 mod Storing
 mod Rows
 mod Stepping
+mod Outputs

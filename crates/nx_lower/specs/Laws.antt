@@ -5,12 +5,15 @@ use Rattle.nx_checked.specs.declared.checked.Element.{Element}
 use Rattle.nx_checked.specs.declared.checked.Shape.{Shape}
 use Rattle.nx_checked.specs.Frames.{bytes_of}
 use Rattle.nx_cobjects.specs.declared.value.Name.{Name}
+use Rattle.nx_cobjects.specs.declared.value.Name.TheVariants as name
 use Rattle.nx_cobjects.specs.declared.value.Value.{Value}
 use Rattle.nx_cobjects.specs.declared.value.Value.TheVariants as value
 use Rattle.nx_cobjects.specs.Memory.{Memory, memory, object_at, load, store, group_with, new_object, end_arrays}
+use Rattle.nx_cobjects.specs.Buffers.{with_output}
 use Rattle.nx_slot.specs.declared.op.Width.TheVariants.{Word}
 use Rattle.nx_slot.specs.Objects.{object_of, has_element, element, with_element}
 use Rattle.nx_slot.specs.Objects as slot
+use Rattle.nx_slot.specs.Calls.{with_output as slot_output}
 use Rattle.nx_slot.specs.Meaning.{without}
 use Rattle.nx_lower.specs.Shown.{counts_of, statics_in, name_of, width_of, objects_of}
 
@@ -57,3 +60,13 @@ names_from i (suc k) = i ∷ names_from (i + 1) k
 
 abbrev pub EndsAlike : Type 0
 EndsAlike = (m : Memory) (from k : ℕ) → objects_of (memory m.group (end_arrays m.own from k)) ≡ without (names_from (statics_in (counts_of m.group) + from) k) (objects_of m)
+
+-- The object is one of its list.
+abbrev pub IsThere : Memory → Name → Type 0
+IsThere m (name.Array i) = i < length m.group.arrays
+IsThere m (name.Text i) = i < length m.group.texts
+IsThere m (name.Own i) = i < length m.own
+
+-- What comes with a reply is put into the same object. Texts stay as they are.
+abbrev pub OutputsAlike : Type 0
+OutputsAlike = (m : Memory) (o : Name) (at : ℕ) (bytes : List ℕ) → IsThere m o → slot_output (objects_of m) (slot.Pointer (name_of (counts_of m.group) o) at) bytes ≡ objects_of (with_output m (value.Point o at) bytes)

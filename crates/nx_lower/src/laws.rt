@@ -1,4 +1,4 @@
-ghost use Rattle.nx_lower.specs.Laws.{LoadsAlike, StoresAlike, VariablesAlike, ArraysAlike, EndsAlike};
+ghost use Rattle.nx_lower.specs.Laws.{LoadsAlike, StoresAlike, VariablesAlike, ArraysAlike, EndsAlike, OutputsAlike};
 
 /// A law: where C reads an element, slot code reads the same number, and where C stores one, slot code stores it, and
 /// both have the same objects after it.
@@ -16,4 +16,9 @@ pub fn a_word_of_slot_code_is_a_variable()
 pub fn arrays_begin_and_end_alike()
     ensures begins { ArraysAlike }
     ensures ends { EndsAlike }
+{}
+
+/// A law: the outputs of a reply are put into the same objects. Texts stay as they are.
+pub fn outputs_are_put_alike()
+    ensures { OutputsAlike }
 {}

@@ -5,5 +5,5 @@ mod laws;
 
 pub use laws::{
     a_word_of_slot_code_is_a_variable, arrays_begin_and_end_alike,
-    elements_are_read_and_stored_alike,
+    elements_are_read_and_stored_alike, outputs_are_put_alike,
 };
