@@ -1,0 +1,4 @@
+pub mod Lengths
+mod Fits
+mod Fitted
+mod Filling

@@ -1,0 +1,9 @@
+pub mod Addresses
+pub mod Frames
+pub mod Moves
+pub mod Operators
+pub mod Calling
+pub mod Code
+pub mod Refs
+pub mod Cells
+pub mod Fitting

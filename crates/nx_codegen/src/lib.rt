@@ -1,0 +1,11 @@
+//! From slot code to RV32IM words.
+#![tactic(auto)]
+
+mod laws;
+mod output;
+
+pub use laws::{
+    an_operation_takes_as_many_instructions_wherever_it_stands, instructions_fit_their_words,
+    refs_filled_in_give_the_instructions,
+};
+pub use output::{Ref, Target, Words};
