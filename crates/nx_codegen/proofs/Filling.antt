@@ -1,7 +1,7 @@
 -- Refs that are filled in give the code.
-use Rattle.std.proofs.Common.{◌≡◌, ℕ, zero, suc, ◌+◌, ◌*◌, ◌/◌, ◌≤◌, Bool, true, List, [], ◌∷◌, ◌++◌, length, Some, refl, sym, ap, ◌∙◌, subst, arith, length-append}
+use Rattle.std.proofs.Common.{◌≡◌, ℕ, suc, ◌+◌, ◌/◌, Bool, true, List, [], ◌∷◌, ◌++◌, length, refl, sym, ap, ◌∙◌, arith, length-append}
 use Rattle.nx_rv.specs.declared.inst.Inst.{Inst}
-use Rattle.nx_rv.specs.declared.inst.Inst.TheVariants.{Lui, Jalr, Load, Store}
+use Rattle.nx_rv.specs.declared.inst.Inst.TheVariants.{Lui, Load, Store}
 use Rattle.nx_slot.specs.declared.op.SlotOp.{SlotOp}
 use Rattle.nx_slot.specs.declared.op.SlotOp.TheVariants as op
 use Rattle.nx_slot.specs.declared.program.SlotFunction.{SlotFunction}
@@ -11,7 +11,7 @@ use Rattle.nx_codegen.specs.declared.output.Ref.{Ref}
 use Rattle.nx_codegen.specs.Addresses.{Links, no_links, upper, lower, target_of}
 use Rattle.nx_codegen.specs.Moves.{addi, get_code, source, set_code, target, answer_code}
 use Rattle.nx_codegen.specs.Calling.{arguments_code, kept_at, save_code, restore_code, call_code, enter_code}
-use Rattle.nx_codegen.specs.Code.{operation_code, size_of, offset, is_near, place_of, code_from, code_of}
+use Rattle.nx_codegen.specs.Code.{operation_code, size_of, is_near, place_of, code_from, code_of}
 use Rattle.nx_codegen.specs.Refs.{refs_in, refs_from, refs_of, with_high, with_low, filled_at, filled}
 use Rattle.nx_codegen.specs.Fitting.{FilledIn}
 use Rattle.nx_codegen.proofs.Lengths.{same_length}

@@ -1,22 +1,20 @@
 -- Each instruction of a function fits its word.
-use Rattle.std.proofs.Common.{◌≡◌, ℕ, zero, suc, ◌+◌, ◌-◌, ◌*◌, ◌%◌, ◌<◌, ◌≤◌, Bool, true, false, List, [], ◌∷◌, ◌++◌, length, Some, refl, sym, ap, ◌∙◌, arith, length-append}
-use Rattle.std.specs.Prelude.{slice_get, nat_lt}
+use Rattle.std.proofs.Common.{◌≡◌, ℕ, suc, ◌+◌, ◌-◌, ◌*◌, ◌%◌, ◌<◌, ◌≤◌, Bool, true, false, List, [], ◌∷◌, length, Some, refl, ap, ◌∙◌, arith, length-append}
+use Rattle.std.specs.Prelude.{slice_get}
 use Rattle.std.proofs.lemmas.Bool.Decides.{nat_tests}
-use Rattle.nx_rv.specs.declared.inst.Inst.{Inst}
 use Rattle.nx_slot.specs.declared.op.Comparison.{Comparison}
 use Rattle.nx_slot.specs.declared.op.SlotOp.{SlotOp}
 use Rattle.nx_slot.specs.declared.op.SlotOp.TheVariants as op
 use Rattle.nx_slot.specs.declared.program.SlotFunction.{SlotFunction}
 use Rattle.nx_codegen.specs.declared.output.Target.TheVariants.{Function, Call}
 use Rattle.nx_codegen.specs.Addresses.{Links, target_of}
-use Rattle.nx_codegen.specs.Frames.{IsFunction}
-use Rattle.nx_codegen.specs.Moves.{get_code, source, set_code, target, answer_code}
-use Rattle.nx_codegen.specs.Operators.{jump_code, skip_code, right_code, right_source}
+use Rattle.nx_codegen.specs.Moves.{get_code, source, target}
+use Rattle.nx_codegen.specs.Operators.{jump_code, skip_code, right_source}
 use Rattle.nx_codegen.specs.Calling.{arguments_code, kept_at, save_code, restore_code, call_code, enter_code}
 use Rattle.nx_codegen.specs.Code.{sides_code, operation_code, size_of, offset, is_near, place_of, code_from, code_of}
 use Rattle.nx_codegen.specs.Cells.{HasCells, AllHaveCells}
 use Rattle.nx_codegen.specs.Fitting.{AllFit, FitTheirWords}
-use Rattle.nx_codegen.proofs.Lengths.{place_aligned, size_aligned, place_room, offset_up}
+use Rattle.nx_codegen.proofs.Lengths.{place_aligned, place_room, offset_up}
 use Rattle.nx_codegen.proofs.Fits.{all_append, IsWay, lui_fits, low_fits, load_low_fits, store_low_fits, source_fits, target_fits, get_fits, set_fits, move_fits, moved_fits, answer_fits, applied_fits, changed_fits, indexed_fits, loaded_fits, stored_fits, jump_fits, skip_fits, right_fits, right_source_fits, arguments_fit, save_fits, restore_fits, call_fits, enter_fits, give_fits, clear_fits, local_fits}
 
 jump_some : (near : Bool) (a b : ℕ) → 1 ≤ length (jump_code near a b)

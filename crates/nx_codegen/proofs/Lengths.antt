@@ -1,5 +1,5 @@
 -- How many instructions code has, wherever it stands.
-use Rattle.std.proofs.Common.{◌≡◌, ℕ, zero, suc, ◌+◌, ◌*◌, ◌%◌, ◌<◌, ◌≤◌, Bool, true, false, List, [], ◌∷◌, ◌++◌, length, Some, refl, sym, ap, ◌∙◌, arith, length-append}
+use Rattle.std.proofs.Common.{◌≡◌, ℕ, zero, suc, ◌+◌, ◌*◌, ◌%◌, ◌≤◌, Bool, true, false, List, [], ◌∷◌, ◌++◌, length, Some, refl, sym, ap, ◌∙◌, arith, length-append}
 use Rattle.std.specs.Prelude.{slice_get}
 use Rattle.nx_rv.specs.declared.inst.Inst.{Inst}
 use Rattle.nx_rv.specs.declared.inst.Inst.TheVariants.{Lui, Store}
@@ -10,8 +10,8 @@ use Rattle.nx_slot.specs.declared.program.SlotFunction.{SlotFunction}
 use Rattle.nx_codegen.specs.declared.output.Target.TheVariants.{Function, Call}
 use Rattle.nx_codegen.specs.Addresses.{Links, no_links, upper, lower, target_of}
 use Rattle.nx_codegen.specs.Moves.{get_code, source, answer_code}
-use Rattle.nx_codegen.specs.Operators.{jump_code, skip_code, branch_if}
-use Rattle.nx_codegen.specs.Calling.{arguments_code, kept_at, save_code, restore_code, call_code, enter_code}
+use Rattle.nx_codegen.specs.Operators.{jump_code, skip_code}
+use Rattle.nx_codegen.specs.Calling.{arguments_code, kept_at, save_code, restore_code, call_code}
 use Rattle.nx_codegen.specs.Code.{sides_code, operation_code, size_of, offset, is_near, place_of}
 
 pub by_test : {A : Type 0} (q : Bool) → (q ≡ true → A) → (q ≡ false → A) → A
@@ -106,3 +106,7 @@ place_room g at o e =
     let h = offset_next (is_near g) g g.ops at o e in
     let u = offset_up (is_near g) g g.ops (suc at) in
     omega (arith, h, u)
+
+pub size_is : (near : Bool) (g : SlotFunction) (o : SlotOp) (is : List Inst) → is ≡ operation_code no_links near g (λ i. 0) 0 0 o → 4 * length is ≡ size_of near g o
+unfolding size_of
+size_is near g o is e = ap (λ x. 4 * length x) e

@@ -1,4 +1,7 @@
 pub mod Lengths
+mod Sizes
+mod Bounds
 mod Fits
 mod Fitted
 mod Filling
+mod Emitting

@@ -1,9 +1,9 @@
 -- Instructions of calls: arguments, kept temporaries, entry and return, proxies and the outermost stub.
-use Rattle.std.specs.Prelude.{ℕ, zero, suc, ◌+◌, ◌-◌, ◌*◌, min, true, nat_le, nat_lt, if◌then◌else◌, List, [], ◌∷◌, ◌++◌, Option, Some, None, ℤ, pos, negsuc}
+use Rattle.std.specs.Prelude.{ℕ, zero, suc, ◌+◌, ◌-◌, ◌*◌, min, true, nat_le, nat_lt, if◌then◌else◌, List, [], ◌∷◌, ◌++◌, Option, Some, None, pos, negsuc}
 use Rattle.nx_base.specs.declared.operations.AluOp.TheVariants as alu
 use Rattle.nx_base.specs.declared.operations.Cond.TheVariants as cond
 use Rattle.nx_rv.specs.declared.inst.Inst.{Inst}
-use Rattle.nx_rv.specs.declared.inst.Inst.TheVariants.{Lui, Jalr, Branch, Load, Store, OpImm, Op, Ecall}
+use Rattle.nx_rv.specs.declared.inst.Inst.TheVariants.{Lui, Jalr, Branch, Load, Store, Op, Ecall}
 use Rattle.nx_slot.specs.declared.program.SlotArray.{SlotArray}
 use Rattle.nx_slot.specs.declared.program.SlotFunction.{SlotFunction}
 use Rattle.nx_codegen.specs.Addresses.{upper, lower}

@@ -1,10 +1,9 @@
 -- The instructions of a function of slot code.
-use Rattle.std.specs.Prelude.{ℕ, zero, suc, ◌+◌, ◌-◌, ◌*◌, Bool, true, nat_lt, List, [], ◌∷◌, ◌++◌, length, slice_get, pos}
+use Rattle.std.specs.Prelude.{ℕ, zero, suc, ◌+◌, ◌-◌, ◌*◌, Bool, true, nat_lt, List, [], ◌∷◌, ◌++◌, length, slice_get}
 use Rattle.nx_rv.specs.declared.inst.Inst.{Inst}
 use Rattle.nx_rv.specs.declared.inst.Inst.TheVariants.{Lui, Load, Store}
 use Rattle.nx_slot.specs.declared.op.Comparison.{Comparison}
 use Rattle.nx_slot.specs.declared.op.Operand.{Operand}
-use Rattle.nx_slot.specs.declared.op.StaticObject.{StaticObject}
 use Rattle.nx_slot.specs.declared.op.SlotOp.{SlotOp}
 use Rattle.nx_slot.specs.declared.op.SlotOp.TheVariants as op
 use Rattle.nx_slot.specs.declared.program.SlotFunction.{SlotFunction}

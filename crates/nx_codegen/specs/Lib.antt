@@ -7,3 +7,4 @@ pub mod Code
 pub mod Refs
 pub mod Cells
 pub mod Fitting
+pub mod Emitted

@@ -1,5 +1,5 @@
 -- Instructions that move numbers between cells, registers and the frame.
-use Rattle.std.specs.Prelude.{ℕ, ◌+◌, ◌==◌, true, nat_lt, if◌then◌else◌, List, [], ◌∷◌, ◌++◌, ℤ, pos}
+use Rattle.std.specs.Prelude.{ℕ, ◌==◌, true, nat_lt, if◌then◌else◌, List, [], ◌∷◌, ◌++◌, ℤ, pos}
 use Rattle.nx_base.specs.declared.operations.AluOp.TheVariants as alu
 use Rattle.nx_rv.specs.declared.inst.Inst.{Inst}
 use Rattle.nx_rv.specs.declared.inst.Inst.TheVariants.{Lui, Load, Store, OpImm, Op}

@@ -18,7 +18,7 @@ use Rattle.nx_slot.specs.declared.op.Width.TheVariants.{Byte, Word}
 use Rattle.nx_slot.specs.declared.program.SlotFunction.{SlotFunction}
 use Rattle.nx_slot.specs.Objects.{bytes_of}
 use Rattle.nx_codegen.specs.Addresses.{upper, lower, from_to, distance}
-use Rattle.nx_codegen.specs.Moves.{addi, number_code, get_code, source, set_code, target}
+use Rattle.nx_codegen.specs.Moves.{number_code, get_code, source, set_code, target}
 
 -- A comparison of two registers, as 1 or 0 in a third.
 abbrev pub compare_code : Comparison → ℕ → ℕ → ℕ → List Inst

@@ -1,11 +1,10 @@
 -- The places in a function's code at which a link fills in an address, and what is filled in there.
-use Rattle.std.specs.Prelude.{ℕ, zero, suc, ◌+◌, ◌*◌, ◌/◌, List, [], ◌∷◌, ◌++◌, length, Option, Some, None, slice_get, slice_set, ℤ}
+use Rattle.std.specs.Prelude.{ℕ, zero, suc, ◌+◌, ◌/◌, List, [], ◌∷◌, ◌++◌, length, ℤ}
 use Rattle.nx_rv.specs.declared.inst.Inst.{Inst}
 use Rattle.nx_rv.specs.declared.inst.Inst.TheVariants.{Lui, Jalr, Load, Store, OpImm}
 use Rattle.nx_slot.specs.declared.op.SlotOp.{SlotOp}
 use Rattle.nx_slot.specs.declared.op.SlotOp.TheVariants as op
 use Rattle.nx_slot.specs.declared.program.SlotFunction.{SlotFunction}
-use Rattle.nx_codegen.specs.declared.output.Target.{Target}
 use Rattle.nx_codegen.specs.declared.output.Target.TheVariants.{Function, Call}
 use Rattle.nx_codegen.specs.declared.output.Ref.{Ref}
 use Rattle.nx_codegen.specs.Addresses.{Links, upper, lower, target_of}
