@@ -3,3 +3,4 @@ pub mod Choosing
 pub mod Joins
 pub mod Rows
 pub mod Blocks
+pub mod Oldest
