@@ -5,7 +5,7 @@ ghost use Rattle.std.specs.Str.{bytes_eq};
 ghost use Rattle.indexmap.specs.IndexMap.{spare, index_map_len};
 ghost use Rattle.nx_ksys.specs.Paths.{node_at, entries_but};
 ghost use Rattle.nx_ksys.specs.State.{is_directory as is_directory_kind, is_made_directory};
-ghost use Rattle.nx_ksys.specs.Descriptors.{is_file_at};
+ghost use Rattle.nx_ksys.specs.Descriptors.{is_file_at, is_queue_at};
 ghost use Rattle.nx_path.specs.Entries.{seen};
 
 use crate::normal::{Path, to_path};
@@ -90,6 +90,28 @@ pub fn has_file(tree: &IndexMap<Path, Node>, place: u32) -> bool
     for at in 0..tree.len() {
         let (_path, node) = entry_at(tree, at);
         if leads_to(node, place) {
+            return true;
+        }
+    }
+    false
+}
+
+fn leads_to_queue(node: Node, place: u32) -> bool
+    ensures { result ≡ is_queue_at place node.kind }
+{
+    match node.kind {
+        NodeKind::Queue(other) => other == place,
+        _ => false,
+    }
+}
+
+/// Whether a path names the queue at a place.
+pub fn has_queue(tree: &IndexMap<Path, Node>, place: u32) -> bool
+    ensures { result ≡ list_any (λ e. is_queue_at place e.1.kind) (seen tree.now) }
+{
+    for at in 0..tree.len() {
+        let (_path, node) = entry_at(tree, at);
+        if leads_to_queue(node, place) {
             return true;
         }
     }

@@ -265,5 +265,7 @@ fn files_are_opened_and_unlinked(rt: HostRuntime) -> Result<(), Fail> {
         assert_eq!(rt; act(&mut tree, step), wanted);
     }
     assert!(rt; !tree.has_file(3));
+    assert!(rt; put(&mut tree, b"q", NodeKind::Queue(3), false));
+    assert!(rt; tree.has_queue(3) && !tree.has_queue(4) && !tree.has_file(3));
     Ok(())
 }

@@ -4,13 +4,13 @@ ghost use Rattle.nx_ksys.specs.Paths.{node_at, resolved, entries_but, has_childr
 ghost use Rattle.nx_ksys.specs.TreeCalls.{is_taken, is_too_long, renamed_entries, list_name};
 ghost use Rattle.nx_ksys.specs.State.{KernelState, is_made_directory};
 ghost use Rattle.nx_ksys.specs.Answers.{Caller};
-ghost use Rattle.nx_ksys.specs.Descriptors.{is_file_at};
+ghost use Rattle.nx_ksys.specs.Descriptors.{is_file_at, is_queue_at};
 ghost use Rattle.nx_ksys.specs.Boot.{first_entries};
 ghost use Rattle.nx_path.specs.Entries.{Held, AreNames};
 ghost use Rattle.nx_path.specs.Rows.{path_told, name_told};
 
 use crate::boot::fix_all;
-use crate::entries::{copy_but, find, has_file, made_directories, put};
+use crate::entries::{copy_but, find, has_file, has_queue, made_directories, put};
 use crate::lookups::{first_fault, has_child, nth_child};
 use crate::normal::{Path, normal_path};
 use crate::rename::{copy_renamed, grows_too_long, has_below};
@@ -101,6 +101,13 @@ impl Tree {
         ensures { result ≡ list_any (λ e. is_file_at place e.1.kind) self.now.entries }
     {
         has_file(&self.live, place)
+    }
+
+    /// Whether a path names the queue at a place.
+    pub fn has_queue(&self, place: u32) -> bool
+        ensures { result ≡ list_any (λ e. is_queue_at place e.1.kind) self.now.entries }
+    {
+        has_queue(&self.live, place)
     }
 
     /// How many directories were made after boot.
