@@ -1,12 +1,13 @@
 -- The expressions in statements.
-use Rattle.std.proofs.Common.{◌≡◌, ℕ, suc, List, sym, ◌∙◌, subst, arith}
-use Rattle.std.specs.Prelude.{Ok}
+use Rattle.std.proofs.Common.{◌≡◌, ℕ, suc, List, sym, ap, ◌∙◌, subst, arith}
+use Rattle.std.specs.Prelude.{Ok, Some}
 use Rattle.nx_grammar.specs.Reading.{Reading, Pass, Take, dispatch, bind, seq, done, then_pick}
 use Rattle.nx_grammar.specs.Lawful.{Any, Lives, Opens, Law}
 use Rattle.nx_grammar.proofs.Results.{bound, ok_same}
 use Rattle.nx_grammar.proofs.Sequences.{law_seq, law_done}
 use Rattle.nx_grammar.proofs.Thens.{then_passes, then_takes}
 use Rattle.nx_ctree.specs.declared.sign.Sign.TheVariants as sign
+use Rattle.nx_ctree.specs.declared.sign.Sign.{Sign}
 use Rattle.nx_ctree.specs.declared.sign.Signed.{Signed}
 use Rattle.nx_ctree.specs.declared.expression.Expr.{Expr}
 use Rattle.nx_ctree.specs.Expressions.{whole}
@@ -16,7 +17,7 @@ use Rattle.nx_cexpr.specs.Signs.{Stops}
 use Rattle.nx_cexpr.proofs.SignLaws.{stops_at}
 use Rattle.nx_cexpr.proofs.Laws.{expr_passes, expr_takes, expr_law}
 use Rattle.nx_cexpr.proofs.Sound.{expr_sound}
-use Rattle.nx_cstmt.specs.Reading.{part_pick}
+use Rattle.nx_cstmt.specs.Reading.{part_pick, sign_at, ended_rest}
 use Rattle.nx_cstmt.proofs.Signs.{Is}
 use Rattle.nx_cstmt.proofs.PartLaws.{PartLives}
 use Rattle.nx_cstmt.proofs.Lists.{then_on}
@@ -62,3 +63,10 @@ part_sound d ts a rest h =
     let o = ok_same x.0.expr a x.1 rest x.3 in
     let f = expr_sound d ts x.0 x.1 x.2 in
     subst (λ r. IsPart d ts a r) o.1 (subst (λ y. IsPart d ts y x.1) o.0 (record { height = x.0.height; has = f.has; within = f.within }))
+
+-- An expression and the sign that ends it.
+pub given_on : (d : ℕ) (s : Sign) (ts us vs : List Signed) (a : Expr) (t : Signed) → dispatch (part_pick d) ts ≡ Ok (a, us) → sign_at s us ≡ Ok (t, vs) →
+    dispatch (λ u. then_pick (part_pick d u) (ended_rest s)) ts ≡ Ok (Some a, vs)
+unfolding ended_rest
+given_on d s ts us vs a t h k =
+    part_then d (ended_rest s) ts ∙ ap (λ o. bind o (ended_rest s)) h ∙ ap (λ o. bind o (λ c. done (Some a))) k
