@@ -1,0 +1,10 @@
+pub mod Unless
+pub mod Sound
+pub mod Complete
+pub mod Steps
+pub mod SoundFunctions
+pub mod CompleteFunctions
+pub mod Contexts
+pub mod FromSteps
+pub mod ToSteps
+pub mod Functions
