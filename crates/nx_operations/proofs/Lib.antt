@@ -1,0 +1,5 @@
+pub mod Numbers
+pub mod Operators
+pub mod Operations
+pub mod Accesses
+pub mod Jumps

@@ -1,0 +1,3 @@
+pub mod Laws
+pub mod Accesses
+pub mod Jumps
