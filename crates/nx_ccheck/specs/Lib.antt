@@ -1,0 +1,5 @@
+pub mod Defined
+pub mod Globals
+pub mod Files
+pub mod Scopes
+pub mod TypedFiles
