@@ -1,0 +1,2 @@
+pub mod NameAlone
+pub mod Operators
