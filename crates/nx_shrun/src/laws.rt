@@ -50,6 +50,6 @@ pub fn an_abstract_run_that_is_over_stays<G, T, W>()
 /// A law: at a place of a table where a list is coded, the command that comes next stands, with the
 /// places of what remains behind it.
 #[tactic(auto, using(crate::proofs::Placed::stands))]
-pub(crate) fn the_next_command_stands_at_its_place()
+pub fn the_next_command_stands_at_its_place()
     ensures { NextStands }
 {}

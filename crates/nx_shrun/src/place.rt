@@ -11,15 +11,15 @@ use std::alloc::{AllocError, Global};
 /// A simple command, by the place of its item in a list, and the places where the shell goes on by
 /// its status. Place 0 is the script's end, and place `n + 1` the node at index `n`.
 #[derive(Debug, Drop)]
-pub(crate) struct Node {
+pub struct Node {
     /// The list in which its item stands.
-    pub(crate) list: Shared<Items<Item>>,
+    pub list: Shared<Items<Item>>,
     /// The place of its item, from 0.
-    pub(crate) index: usize,
+    pub index: usize,
     /// Where the shell goes on at status 0.
-    pub(crate) at_zero: usize,
+    pub at_zero: usize,
     /// Where it goes on at another.
-    pub(crate) at_other: usize,
+    pub at_other: usize,
 }
 
 #[tactic(auto, using(crate::proofs::Grown::map_put))]
@@ -144,13 +144,15 @@ fn write_list(
 
 /// The table of a script, and the place where it begins.
 #[derive(Debug, Drop)]
-pub(crate) struct Table {
-    pub(crate) nodes: Vec<Option<Node>>,
-    pub(crate) start: usize,
+pub struct Table {
+    /// Its nodes. Place `n + 1` is that of the node at index `n`.
+    pub nodes: Vec<Option<Node>>,
+    /// The place where the script begins.
+    pub start: usize,
 }
 
 /// Writes each command of a script into a table.
-pub(crate) fn lay_out(alloc: Global, script: &Script) -> Result<Table, OutOfMemory>
+pub fn lay_out(alloc: Global, script: &Script) -> Result<Table, OutOfMemory>
     ensures { IfOk result (λ t. Coded (map place_of t.nodes.items) (items_in_order script.now) t.start 0) }
 {
     let mut nodes = Vec::new(alloc);

@@ -7,7 +7,7 @@ use std::marker::Model;
 
 /// The steps that a command has before it, with room for so many. Contracts see the next one first.
 #[derive(Debug, Drop)]
-pub(crate) struct Steps {
+pub struct Steps {
     items: Vec<Step>,
     room: usize,
 }
@@ -25,7 +25,7 @@ impl Model for Steps {
 
 impl Steps {
     /// No steps, with room for so many.
-    pub(crate) fn new(alloc: Global, room: usize) -> Result<Steps, OutOfMemory>
+    pub fn new(alloc: Global, room: usize) -> Result<Steps, OutOfMemory>
         ensures { IfOk result (λ s. s ≡ record { steps = []; room = room }) }
     {
         let items = Vec::with_capacity(alloc, room)?;
@@ -33,14 +33,14 @@ impl Steps {
     }
 
     /// Drops them all, and keeps the room.
-    pub(crate) fn clear(&mut self)
+    pub fn clear(&mut self)
         ensures { self.new ≡ record self.old { steps = [] } }
     {
         self.items.clear();
     }
 
     /// Puts a step before them.
-    pub(crate) fn push(&mut self, step: Step)
+    pub fn push(&mut self, step: Step)
         requires room { length self.old.steps < self.old.room }
         ensures { self.new ≡ record self.old { steps = step ∷ self.old.steps } }
     {
@@ -48,7 +48,7 @@ impl Steps {
     }
 
     /// Takes the next step.
-    pub(crate) fn pop(&mut self) -> Option<Step>
+    pub fn pop(&mut self) -> Option<Step>
         ensures steps { MatchOption result (self.old.steps ≡ []) (λ step. self.old.steps ≡ step ∷ self.new.steps) }
         ensures room { self.new.room ≡ self.old.room }
     {

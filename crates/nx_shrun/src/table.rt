@@ -17,7 +17,7 @@ use crate::steps::Steps;
 use nx_ksys::MovedBytes;
 
 /// The words after a command's name.
-fn arguments(words: &[MovedBytes]) -> &[MovedBytes]
+pub fn arguments(words: &[MovedBytes]) -> &[MovedBytes]
     ensures { result.now ≡ arguments_of words.now }
 {
     match words {
@@ -224,7 +224,7 @@ fn left(status: u32, words: &[MovedBytes]) -> Option<Ending>
 
 /// Puts the steps of a command of the table before those that are there, and says how it ends. None
 /// where its arguments are bad.
-pub(crate) fn put_body(
+pub fn put_body(
     steps: &mut Steps,
     builtin: Builtin,
     status: u32,

@@ -7,7 +7,7 @@ use nx_base::KCall;
 use nx_ksys::MovedBytes;
 
 /// Adds bytes.
-pub(crate) fn append(text: &mut MovedBytes, bytes: &[u8])
+pub fn append(text: &mut MovedBytes, bytes: &[u8])
     requires room { length text.old + length bytes.now ≤ 4096 }
     ensures { text.new ≡ text.old ++ bytes.now }
 {
@@ -18,7 +18,7 @@ pub(crate) fn append(text: &mut MovedBytes, bytes: &[u8])
 
 /// Adds a number in decimal digits.
 #[tactic(auto, using(crate::proofs::Bounded::decimal_le))]
-pub(crate) fn append_decimal(text: &mut MovedBytes, number: u32)
+pub fn append_decimal(text: &mut MovedBytes, number: u32)
     requires room { length text.old + 10 ≤ 4096 }
     ensures { text.new ≡ text.old ++ decimal number }
 {
@@ -28,7 +28,7 @@ pub(crate) fn append_decimal(text: &mut MovedBytes, number: u32)
 
 /// `nsh: NAME: CALL failed: E`
 #[tactic(auto, unfolding(crate::specs::Texts::failure_message), using(crate::proofs::Bounded::name_le, crate::proofs::Bounded::failed_le))]
-pub(crate) fn put_failure(text: &mut MovedBytes, name: &[u8], call: KCall, errno: u32)
+pub fn put_failure(text: &mut MovedBytes, name: &[u8], call: KCall, errno: u32)
     requires name { length name.now ≤ 255 }
     ensures { text.new ≡ failure_message name.now call errno }
 {
@@ -43,7 +43,7 @@ pub(crate) fn put_failure(text: &mut MovedBytes, name: &[u8], call: KCall, errno
 
 /// `nsh: NAME: bad arguments`
 #[tactic(auto, unfolding(crate::specs::Texts::bad_arguments))]
-pub(crate) fn put_bad_arguments(text: &mut MovedBytes, name: &[u8])
+pub fn put_bad_arguments(text: &mut MovedBytes, name: &[u8])
     requires name { length name.now ≤ 255 }
     ensures { text.new ≡ bad_arguments name.now }
 {
@@ -55,7 +55,7 @@ pub(crate) fn put_bad_arguments(text: &mut MovedBytes, name: &[u8])
 
 /// `nsh: NAME: command not found`
 #[tactic(auto, unfolding(crate::specs::Texts::command_not_found))]
-pub(crate) fn put_not_found(text: &mut MovedBytes, name: &[u8])
+pub fn put_not_found(text: &mut MovedBytes, name: &[u8])
     requires name { length name.now ≤ 255 }
     ensures { text.new ≡ command_not_found name.now }
 {
@@ -67,7 +67,7 @@ pub(crate) fn put_not_found(text: &mut MovedBytes, name: &[u8])
 
 /// `nsh: line too long`
 #[tactic(auto, unfolding(crate::specs::Texts::line_too_long))]
-pub(crate) fn put_too_long(text: &mut MovedBytes)
+pub fn put_too_long(text: &mut MovedBytes)
     ensures { text.new ≡ line_too_long }
 {
     text.set(b"nsh: line too long\n");
@@ -75,7 +75,7 @@ pub(crate) fn put_too_long(text: &mut MovedBytes)
 
 /// `NAME [PID:100]`
 #[tactic(auto, unfolding(crate::specs::Texts::announcement), using(crate::proofs::Bounded::numbered_le, crate::proofs::Bounded::announced_le))]
-pub(crate) fn put_announcement(text: &mut MovedBytes, name: &[u8], pid: u32)
+pub fn put_announcement(text: &mut MovedBytes, name: &[u8], pid: u32)
     requires name { length name.now ≤ 255 }
     ensures { text.new ≡ announcement name.now pid }
 {
@@ -94,7 +94,7 @@ fn has_slash(name: &[u8]) -> bool
 
 /// Where a program lies.
 #[tactic(auto, unfolding(crate::specs::Texts::program_path))]
-pub(crate) fn put_path(text: &mut MovedBytes, name: &[u8])
+pub fn put_path(text: &mut MovedBytes, name: &[u8])
     requires name { length name.now ≤ 255 }
     ensures { text.new ≡ program_path name.now }
 {

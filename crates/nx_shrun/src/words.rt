@@ -9,7 +9,7 @@ use std::marker::Model;
 /// The words of a command. The room for so many is taken when they are made, so no other call
 /// takes memory.
 #[derive(Debug, Drop)]
-pub(crate) struct Words {
+pub struct Words {
     items: Vec<MovedBytes>,
     used: usize,
 }
@@ -27,7 +27,7 @@ impl Model for Words {
 
 impl Words {
     /// No words, with room for so many.
-    pub(crate) fn new(alloc: Global, room: usize) -> Result<Words, OutOfMemory>
+    pub fn new(alloc: Global, room: usize) -> Result<Words, OutOfMemory>
         ensures { IfOk result (λ w. w ≡ record { words = []; room = room }) }
     {
         let mut items = Vec::new(alloc);
@@ -38,21 +38,21 @@ impl Words {
     }
 
     /// The words.
-    pub(crate) fn as_slice(&self) -> &[MovedBytes]
+    pub fn as_slice(&self) -> &[MovedBytes]
         ensures { result.now ≡ self.now.words }
     {
         &self.items.as_slice()[..self.used]
     }
 
     /// Drops them all, and keeps the room.
-    pub(crate) fn clear(&mut self)
+    pub fn clear(&mut self)
         ensures { self.new ≡ record self.old { words = [] } }
     {
         self.used = 0;
     }
 
     /// Adds a word.
-    pub(crate) fn push(&mut self, word: &[u8])
+    pub fn push(&mut self, word: &[u8])
         requires room { length self.old.words < self.old.room }
         requires short { length word.now ≤ 4096 }
         ensures { self.new ≡ record self.old { words = self.old.words ++ word.now ∷ [] } }
