@@ -9,3 +9,4 @@ pub mod Steps
 pub mod Splits
 pub mod Expressions
 pub mod FileReads
+pub mod Parsed
