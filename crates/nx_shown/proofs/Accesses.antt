@@ -6,7 +6,8 @@ use Rattle.nx_base.specs.Views.{View, Window, load_bytes, store_bytes, number_or
 use Rattle.nx_base.proofs.Puts.{length-to_le}
 use Rattle.nx_base.proofs.Stores.{fetch-store_other}
 use Rattle.nx_rv.specs.declared.inst.Inst.{Inst}
-use Rattle.nx_shown.specs.Bytes.{Bytes, Lies, Part, with_bytes, number_at, with_number}
+use Rattle.nx_base.specs.Ranges.{Lies}
+use Rattle.nx_shown.specs.Bytes.{Bytes, Part, with_bytes, number_at, with_number}
 use Rattle.nx_shown.specs.Places.{Piece, Place, AreHere, HasText, AreOff, Sees, MayWrite, IsElsewhere}
 use Rattle.nx_shown.specs.Leading.{Kept, LoadsAreShown, StoresAreShown}
 use Rattle.nx_shown.proofs.Stores.{read, stored, small_number, same_lies, other_byte}

@@ -7,7 +7,8 @@ use Rattle.std.proofs.lemmas.List.{length-set, get_or-set_same, get_or-set_other
 use Rattle.nx_base.specs.ByteLists.{put_bytes, get_bytes, to_le, from_le}
 use Rattle.nx_base.specs.Views.{Window, holds, find_bytes, put_in}
 use Rattle.nx_base.proofs.Puts.{put_bytes-none, put_bytes-more, length-put_bytes, length-to_le, from_le-to_le}
-use Rattle.nx_shown.specs.Bytes.{Bytes, Here, IsOff, Lies, bytes_at, put, with_bytes, number_at, with_number}
+use Rattle.nx_base.specs.Ranges.{Here, IsOff, Lies}
+use Rattle.nx_shown.specs.Bytes.{Bytes, bytes_at, put, with_bytes, number_at, with_number}
 
 pub put_same : (t : ℕ → ℕ) (k n j : ℕ) → j ≡ k → put t k n j ≡ n
 put_same t k n j e = grind (arith, nat_tests)
@@ -88,6 +89,7 @@ same_here w written low top b d e h = record {
   to = h.to;
   reads = h.reads;
   writes = h.writes;
+  own = h.own;
   bytes = λ c k o. h.bytes c k o ∙ e c k o;
 }
 
@@ -111,6 +113,7 @@ here_after w written low top a xs b l m h =
       to = omega (arith, z, h.to);
       reads = h.reads;
       writes = h.writes;
+      own = h.own;
       bytes = λ c k o. listed_after w.bytes w.start b a xs c l m (omega (arith, h.from, k)) (h.bytes c k o);
     }
 

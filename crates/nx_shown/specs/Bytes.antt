@@ -1,27 +1,11 @@
 -- Bytes of memory as a function from addresses, and what a list of windows shows of them.
-use Rattle.std.specs.Prelude.{◌≡◌, ℕ, zero, suc, ◌+◌, ◌-◌, ◌≤◌, ◌<◌, ◌⊎◌, ◌==◌, if◌then◌else◌, Bool, true, List, [], ◌∷◌, length, slice_index}
+use Rattle.std.specs.Prelude.{ℕ, zero, suc, ◌+◌, ◌≤◌, ◌⊎◌, ◌==◌, if◌then◌else◌, Bool, List, [], ◌∷◌}
 use Rattle.nx_base.specs.ByteLists.{from_le, to_le}
 use Rattle.nx_base.specs.Views.{Window}
+use Rattle.nx_base.specs.Ranges.{Lies}
 
 abbrev pub Bytes : Type 0
 Bytes = ℕ → ℕ
-
--- A window has each byte of a part, may be read there, and written where that is asked.
-pub record Here (w : Window) (written : Bool) (low top : ℕ) (b : Bytes) : Type 0 where
-  pub from : w.start ≤ low
-  pub to : top ≤ w.start + length w.bytes
-  pub reads : w.reads ≡ true
-  pub writes : written ≡ true → w.writes ≡ true
-  pub bytes : (a : ℕ) → low ≤ a → a < top → slice_index w.bytes (a - w.start) ≡ b a
-
--- A window has no byte of a part.
-abbrev pub IsOff : Window → ℕ → ℕ → Type 0
-IsOff w low top = (w.start + length w.bytes ≤ low) ⊎ (top ≤ w.start)
-
--- The first window that has a byte of the part has all of it.
-abbrev pub Lies : List Window → Bool → ℕ → ℕ → Bytes → Type 0
-Lies [] written low top b = ⊥
-Lies (w ∷ ws) written low top b = Here w written low top b ⊎ (IsOff w low top × Lies ws written low top b)
 
 -- The part lies in the windows, or it has no byte.
 abbrev pub Part : List Window → Bool → ℕ → ℕ → Bytes → Type 0
