@@ -1,10 +1,11 @@
 -- What a checked program does, one step at a time.
 
-use Rattle.std.specs.Prelude.{ℕ, ℤ, zero, suc, ◌+◌, Bool, true, false, List, [], ◌∷◌, ◌++◌, length, get_or, slice_get, Option, Some, None, Result, Ok, Err}
+use Rattle.std.specs.Prelude.{ℕ, ℤ, zero, suc, ◌+◌, ◌%◌, Bool, true, false, List, [], ◌∷◌, ◌++◌, length, get_or, slice_get, slice_set, Option, Some, None, Result, Ok, Err}
 use Rattle.nx_base.specs.Arithmetic.{alu_of, signed}
 use Rattle.nx_base.specs.declared.operations.AluOp.TheVariants as alu
 use Rattle.nx_base.specs.Calls.{Call}
 use Rattle.nx_checked.specs.declared.checked.Cell.{Cell}
+use Rattle.nx_checked.specs.declared.checked.Cell.TheVariants as cell
 use Rattle.nx_checked.specs.declared.checked.ArrayName.TheVariants as array
 use Rattle.nx_checked.specs.declared.checked.Scalar.{Scalar}
 use Rattle.nx_checked.specs.declared.checked.Scalar.TheVariants as scalar
@@ -16,13 +17,13 @@ use Rattle.nx_checked.specs.declared.checked.UsedCall.{UsedCall}
 use Rattle.nx_checked.specs.Trees.{Stmt, Done, Then, Fun, Program}
 use Rattle.nx_cobjects.specs.declared.value.Name.TheVariants as name
 use Rattle.nx_cobjects.specs.declared.value.Value.{Value}
-use Rattle.nx_cobjects.specs.declared.value.Value.TheVariants.{Int, Point, Entry}
+use Rattle.nx_cobjects.specs.declared.value.Value.TheVariants.{Int, Point, Forged, Entry}
 use Rattle.nx_cobjects.specs.declared.value.Prefix.TheVariants as before
 use Rattle.nx_cobjects.specs.declared.value.WrongKind.{WrongKind}
 use Rattle.nx_cobjects.specs.declared.value.WrongKind.TheVariants as wrong
-use Rattle.nx_cobjects.specs.Values.{int_in, kept, cut, first_value, moved, operated}
+use Rattle.nx_cobjects.specs.Values.{◌>>=◌, number_in, kept, cut, first_value, operated}
 use Rattle.nx_cobjects.specs.Groups.{Object, Group}
-use Rattle.nx_cobjects.specs.Memory.{Memory, memory, load, store, prefixed, infixed, cell_value, cells_with, group_with, new_object, end_arrays}
+use Rattle.nx_cobjects.specs.Memory.{Memory, memory, load, store, moved, prefixed, infixed, cell_value, group_with, new_object, end_arrays}
 use Rattle.nx_cobjects.specs.Buffers.{inputs_of, outputs_of, words_of, replied}
 use Rattle.nx_cmean.specs.declared.item.Leaf.{Leaf}
 use Rattle.nx_cmean.specs.declared.item.Leaf.TheVariants as leaf
@@ -54,7 +55,7 @@ pub data Answer : Type 0 where
   Ends : (n : ℤ) (g : Group) → Answer
   Wrong : (kind : WrongKind) → Answer
 
--- What no thread of a checked program comes to.
+-- What is said where a value isn't there or isn't what its place asks for, to which no thread of a checked program comes.
 abbrev pub stuck : Answer
 stuck = Wrong wrong.Bounds
 
@@ -70,10 +71,13 @@ with_todo f vs k = record { function = f.function; from = f.from; arrays = f.arr
 abbrev pub with_cells : Frame → List Value → List Value → Frame
 with_cells f cells vs = record { function = f.function; from = f.from; arrays = f.arrays; cells = cells; values = vs; todo = f.todo }
 
--- Whether a value is the number 0.
-abbrev pub zero_or : {A : Type 0} → ℕ → A → A → A
-zero_or zero a b = a
-zero_or (suc n) a b = b
+-- By whether a value is the number 0, or what is said of a value that is no number.
+abbrev pub zero_or : {A : Type 0} → Value → A → A → A → A
+zero_or (Int zero) miss a b = a
+zero_or (Int (suc n)) miss a b = b
+zero_or (Point o at) miss a b = miss
+zero_or (Forged n) miss a b = miss
+zero_or (Entry f) miss a b = miss
 
 -- The last value, the last two, the last three, or what is said where they are missing.
 abbrev pub on_top : {A : Type 0} → List Value → A → (Value → List Value → A) → A
@@ -122,11 +126,21 @@ leaf_value from (leaf.Array (array.Local i)) = Point (name.Own (from + i)) 0
 leaf_value from (leaf.Array (array.Global i)) = Point (name.Array i) 0
 
 -- What a compound assignment stores, by what the variable holds: a pointer moves by elements.
-abbrev pub raised : IntOperator → Scalar → Value → Value → Value
-raised op scalar.Int v e = Int (operated op (int_in v) (int_in e))
-raised op scalar.Char v e = Int (operated op (int_in v) (int_in e))
-raised Subtract (scalar.Pointer w) v e = moved w v (alu_of alu.Sub 0 (int_in e))
-raised op (scalar.Pointer w) v e = moved w v (int_in e)
+abbrev pub raised : Memory → IntOperator → Scalar → Value → Value → Result Value WrongKind
+raised m op scalar.Int v e = do
+  x ← number_in v
+  y ← number_in e
+  Ok (Int (operated op x y))
+raised m op scalar.Char v e = do
+  x ← number_in v
+  y ← number_in e
+  Ok (Int (operated op x y % 256))
+raised m Subtract (scalar.Pointer w) v e = do
+  n ← number_in e
+  moved m w v (alu_of alu.Sub 0 n)
+raised m op (scalar.Pointer w) v e = do
+  n ← number_in e
+  moved m w v n
 
 -- `++` adds the number 1, and `--` subtracts it.
 abbrev pub stepping : Bool → IntOperator
@@ -138,9 +152,12 @@ new_or_old New a b = a
 new_or_old Old a b = b
 
 -- What parameters keep of arguments.
-abbrev pub all_kept : List Scalar → List Value → List Value
-all_kept (s ∷ ss) (v ∷ vs) = kept s v ∷ all_kept ss vs
-all_kept ss vs = vs
+abbrev pub all_kept : List Value → List Scalar → List Value → Result (List Value) WrongKind
+all_kept done (s ∷ ss) (v ∷ vs) = do
+  k ← kept s v
+  all_kept (done ++ k ∷ []) ss vs
+all_kept done (s ∷ ss) [] = Ok done
+all_kept done [] vs = Ok (done ++ vs)
 
 abbrev pub no_fun : Fun
 no_fun = record { params = []; locals = []; arrays = []; initials = []; body = Done; frame = 0 }
@@ -148,56 +165,67 @@ no_fun = record { params = []; locals = []; arrays = []; initials = []; body = D
 abbrev pub fun_at : Program → ℕ → Fun
 fun_at p f = get_or p.functions f no_fun
 
--- A call of a function begins, where the thread has had so many objects.
+-- A call of a function begins with its parameters, where the thread has had so many objects.
 abbrev pub opened_fun : Fun → ℕ → ℕ → List Value → Frame
-opened_fun g f names args = record {
+opened_fun g f names params = record {
   function = f;
   from = names;
   arrays = length g.arrays;
-  cells = all_kept g.params args;
+  cells = params;
   values = [];
   todo = entry_then g [];
 }
 
 abbrev pub opened : Program → ℕ → ℕ → List Value → Frame
-opened p f names args = opened_fun (fun_at p f) f names args
+opened p f names params = opened_fun (fun_at p f) f names params
+
+abbrev pub opened_with : Program → ℕ → ℕ → Frame → List Frame → Frame → Result (List Value) WrongKind → List Frame
+opened_with p f names caller below miss (Ok params) = opened p f names params ∷ caller ∷ below
+opened_with p f names caller below miss (Err kind) = miss ∷ below
 
 -- The second side of an `if`, if it has one.
 abbrev pub else_then : Option Stmt → List Item → List Item
 else_then None k = k
 else_then (Some b) k = Exec b ∷ k
 
--- A decision, which takes no step: what the item that stood first makes of its call. Other items stay.
+-- An item stays first.
+abbrev pub stays : Frame → Item → Frame
+stays f i = with_todo f f.values (i ∷ f.todo)
+
+-- A decision, which takes no step: what the item that stood first makes of its call. Other items stay, and so does a
+-- decision whose value isn't there or is no number.
 abbrev pub decided_frame : Frame → Item → Frame
 decided_frame f (AndThen b) =
-    on_top f.values (with_todo f f.values (AndThen b ∷ f.todo)) (λ v rest. zero_or (int_in v)
+    on_top f.values (stays f (AndThen b)) (λ v rest. zero_or v (stays f (AndThen b))
     (with_todo f f.values (Alter before.Truth ∷ f.todo))
     (with_todo f rest (items_then b (Alter before.Truth ∷ f.todo))))
 decided_frame f (OrElse b) =
-    on_top f.values (with_todo f f.values (OrElse b ∷ f.todo)) (λ v rest. zero_or (int_in v)
+    on_top f.values (stays f (OrElse b)) (λ v rest. zero_or v (stays f (OrElse b))
     (with_todo f rest (items_then b (Alter before.Truth ∷ f.todo)))
     (with_todo f f.values (Alter before.Truth ∷ f.todo)))
 decided_frame f (Choose a b) =
-    on_top f.values (with_todo f f.values (Choose a b ∷ f.todo)) (λ v rest. zero_or (int_in v)
+    on_top f.values (stays f (Choose a b)) (λ v rest. zero_or v (stays f (Choose a b))
     (with_todo f rest (items_then b (Chosen ∷ f.todo)))
     (with_todo f rest (items_then a (Chosen ∷ f.todo))))
-decided_frame f Forget = on_top f.values (with_todo f f.values (Forget ∷ f.todo)) (λ v rest. with_values f rest)
+decided_frame f Forget = on_top f.values (stays f Forget) (λ v rest. with_values f rest)
 decided_frame f (Test a b) =
-    on_top f.values (with_todo f f.values (Test a b ∷ f.todo)) (λ v rest. zero_or (int_in v)
+    on_top f.values (stays f (Test a b)) (λ v rest. zero_or v (stays f (Test a b))
     (with_todo f rest (else_then b f.todo))
     (with_todo f rest (Exec a ∷ f.todo)))
 decided_frame f (FirstTest c s) = with_todo f f.values (items_then c (TestLoop c None s ∷ f.todo))
 decided_frame f (TestLoop c t s) =
-    on_top f.values (with_todo f f.values (TestLoop c t s ∷ f.todo)) (λ v rest. zero_or (int_in v)
+    on_top f.values (stays f (TestLoop c t s)) (λ v rest. zero_or v (stays f (TestLoop c t s))
     (with_values f rest)
     (with_todo f rest (Exec s ∷ Turn (Some c) t s ∷ f.todo)))
 decided_frame f (Turn c t s) = with_todo f f.values (option_then t (Again c t s ∷ f.todo))
-decided_frame f i = with_todo f f.values (i ∷ f.todo)
+decided_frame f i = stays f i
 
--- A call of a function is entered by a decision too.
+-- A call of a function is entered by a decision too. Where an argument isn't there or isn't what its parameter can keep,
+-- the call stays without values, so that it is never entered.
 abbrev pub decide : Program → ℕ → List Frame → Frame → Item → List Frame
 decide p names below f (Enter g n) =
-    on_taken (taken n f.values []) (with_todo f [] (Enter g n ∷ f.todo) ∷ below) (λ args rest. opened p g names args ∷ with_values f rest ∷ below)
+    on_taken (taken n f.values []) (stays (with_values f []) (Enter g n) ∷ below)
+    (λ args rest. opened_with p g names (with_values f rest) below (stays (with_values f []) (Enter g n)) (all_kept [] (fun_at p g).params args))
 decide p names below f i = decided_frame f i ∷ below
 
 -- The first item of an open call, if there is one, and the call without it.
@@ -221,9 +249,13 @@ abbrev pub given : List Frame → Value → List Frame
 given [] v = []
 given (f ∷ below) v = with_values f (v ∷ f.values) ∷ below
 
--- A call is over, and its arrays with it.
+-- A call is over, and its arrays with it. The first function gives a number.
+abbrev pub ended_by : Memory → Result ℕ WrongKind → Answer
+ended_by m (Ok n) = Ends (signed n) m.group
+ended_by m (Err kind) = Wrong kind
+
 abbrev pub left : Memory → Frame → List Frame → Value → Answer
-left m f [] v = Ends (signed (int_in v)) m.group
+left m f [] v = ended_by m (number_in v)
 left m f (g ∷ below) v = goes (memory m.group (end_arrays m.own f.from f.arrays)) (given (g ∷ below) v)
 
 -- What an item makes of its call, or what is wrong. Statements and arrays first.
@@ -247,8 +279,10 @@ evaluated m f (Get x) = Ok (with_values f (cell_value m f.cells x ∷ f.values))
 evaluated m f (Alter op) = on_top f.values (Err wrong.Bounds) (λ v rest. put_value f rest (prefixed m op v))
 evaluated m f (Apply op) = on_two f.values (Err wrong.Bounds) (λ x y rest. put_value f rest (infixed m op x y))
 evaluated m f (Fetch w) = on_top f.values (Err wrong.Bounds) (λ a rest. put_value f (a ∷ rest) (load m w a))
-evaluated m f (FetchAt w) =
-    on_two f.values (Err wrong.Bounds) (λ a i rest. put_value f (moved w a (int_in i) ∷ rest) (load m w (moved w a (int_in i))))
+evaluated m f (FetchAt w) = on_two f.values (Err wrong.Bounds) (λ a i rest. do
+  n ← number_in i
+  at ← moved m w a n
+  put_value f (at ∷ rest) (load m w at))
 evaluated m f Reached = Ok f
 evaluated m f Chosen = Ok f
 evaluated m f Called = Ok f
@@ -262,10 +296,12 @@ pub record Changed : Type 0 where
 abbrev pub changed : Memory → Frame → Changed
 changed m f = record { memory = m; frame = f }
 
--- A variable gets a value, and another is the value of the assignment.
+-- A variable gets a value, and another is the value of the assignment. One of the file gets numbers alone.
 abbrev pub assigned : Memory → Frame → Cell → Value → Value → List Value → Result Changed WrongKind
-assigned m f x v result rest =
-    Ok (changed (memory (group_with m.group x v) m.own) (with_cells f (cells_with f.cells x v) (result ∷ rest)))
+assigned m f (cell.Local i) v result rest = Ok (changed m (with_cells f (slice_set f.cells i v) (result ∷ rest)))
+assigned m f (cell.Global i) v result rest = do
+  n ← number_in v
+  Ok (changed (memory (group_with m.group i n) m.own) (with_values f (result ∷ rest)))
 
 -- The same of the element at a pointer.
 abbrev pub then_value : Frame → List Value → ℕ → Result Memory WrongKind → Result Changed WrongKind
@@ -278,22 +314,30 @@ unchanged m (Err kind) = Err kind
 
 -- Assignments.
 abbrev pub stored : Memory → Frame → Item → Result Changed WrongKind
-stored m f (Write s x) = on_top f.values (Err wrong.Bounds) (λ v rest. assigned m f x (kept s v) (kept s v) rest)
-stored m f (Raise op s x) =
-    on_two f.values (Err wrong.Bounds) (λ v e rest. assigned m f x (kept s (raised op s v e)) (kept s (raised op s v e)) rest)
-stored m f (Bump v up s x) =
-    on_top f.values (Err wrong.Bounds) (λ old rest. assigned m f x (kept s (raised (stepping up) s old (Int 1))) (new_or_old v (kept s (raised (stepping up) s old (Int 1))) old) rest)
-stored m f (Lay w) =
-    on_two f.values (Err wrong.Bounds) (λ a v rest. then_value f rest (cut w (int_in v)) (store m w a (int_in v)))
-stored m f (Lift op w) =
-    on_three f.values (Err wrong.Bounds) (λ a v e rest. then_value f rest (cut w (operated op (int_in v) (int_in e))) (store m w a (operated op (int_in v) (int_in e))))
-stored m f (Shift v up w) =
-    on_two f.values (Err wrong.Bounds) (λ a old rest. then_value f rest (new_or_old v (cut w (operated (stepping up) (int_in old) 1)) (int_in old)) (store m w a (operated (stepping up) (int_in old) 1)))
+stored m f (Write s x) = on_top f.values (Err wrong.Bounds) (λ v rest. do
+  k ← kept s v
+  assigned m f x k k rest)
+stored m f (Raise op s x) = on_two f.values (Err wrong.Bounds) (λ v e rest. do
+  k ← raised m op s v e
+  assigned m f x k k rest)
+stored m f (Bump v up s x) = on_top f.values (Err wrong.Bounds) (λ old rest. do
+  k ← raised m (stepping up) s old (Int 1)
+  assigned m f x k (new_or_old v k old) rest)
+stored m f (Lay w) = on_two f.values (Err wrong.Bounds) (λ a v rest. do
+  n ← number_in v
+  then_value f rest (cut w n) (store m w a n))
+stored m f (Lift op w) = on_three f.values (Err wrong.Bounds) (λ a v e rest. do
+  x ← number_in v
+  y ← number_in e
+  then_value f rest (cut w (operated op x y)) (store m w a (operated op x y)))
+stored m f (Shift v up w) = on_two f.values (Err wrong.Bounds) (λ a old rest. do
+  n ← number_in old
+  then_value f rest (new_or_old v (cut w (operated (stepping up) n 1)) n) (store m w a (operated (stepping up) n 1)))
 stored m f (Make s) = Ok (changed (memory m.group (m.own ++ new_object s ∷ [])) f)
 stored m f i = unchanged m (evaluated m f i)
 
 abbrev pub asked : Memory → List Frame → Frame → List Value → List Value → UsedCall → Answer
-asked m below f args rest c = on_inputs (inputs_of m c.kinds args) (λ inputs.
+asked m below f args rest c = on_inputs (inputs_of m c args) (λ inputs.
     Asks (record { number = c.number; words = words_of args; inputs = inputs }) m.group (thread m.own (with_values f rest ∷ below) (outputs_of c.kinds args)))
 
 abbrev pub goes_on : List Frame → Result Changed WrongKind → Answer

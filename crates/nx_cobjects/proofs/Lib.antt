@@ -1,3 +1,4 @@
 pub mod PastEnd
 pub mod PutBytes
 pub mod NoText
+pub mod Bits

@@ -1,13 +1,16 @@
 -- The bytes that go with a call of the kernel, and those that come with its reply.
-use Rattle.std.specs.Prelude.{ℕ, zero, suc, ◌+◌, ◌*◌, ◌==◌, min, List, [], ◌∷◌, ◌++◌, length, take, drop, slice_index, slice_set, nat_lt, nat_le, if◌then◌else◌, Option, Some, None, option_map}
+use Rattle.std.specs.Prelude.{ℕ, zero, suc, ◌+◌, ◌*◌, ◌==◌, min, Bool, true, false, not, ◌&&◌, List, [], ◌∷◌, ◌++◌, length, take, drop, slice_index, slice_set, nat_lt, nat_le, if◌then◌else◌, Option, Some, None, option_map, codes, Result, Ok, Err}
+use Rattle.std.specs.Str.{bytes_eq}
 use Rattle.nx_base.specs.ByteLists.{put_bytes}
 use Rattle.nx_base.specs.Replies.{most_moved}
 use Rattle.nx_base.specs.declared.calls.Kind.{Kind}
 use Rattle.nx_base.specs.declared.calls.Kind.TheVariants.{Word, In, Text, Out, Len, Out4, Out8}
+use Rattle.nx_checked.specs.declared.checked.UsedCall.{UsedCall}
 use Rattle.nx_cobjects.specs.declared.value.Name.TheVariants as name
 use Rattle.nx_cobjects.specs.declared.value.Value.{Value}
-use Rattle.nx_cobjects.specs.declared.value.Value.TheVariants.{Point}
-use Rattle.nx_cobjects.specs.Values.{int_in, size_of, word_in}
+use Rattle.nx_cobjects.specs.declared.value.Value.TheVariants.{Int, Point, Forged, Entry}
+use Rattle.nx_cobjects.specs.declared.value.WrongKind.{WrongKind}
+use Rattle.nx_cobjects.specs.Values.{number_in, size_of, word_in}
 use Rattle.nx_cobjects.specs.Groups.{Object, object}
 use Rattle.nx_cobjects.specs.Memory.{Memory, memory, object_in, object_at, value_in}
 
@@ -21,6 +24,18 @@ abbrev pub buffer : Memory → Value → ℕ → Option (List ℕ)
 buffer m v zero = Some []
 buffer m (Point o at) (suc n) = part_of (object_at m o) at (suc n)
 buffer m v (suc n) = None
+
+-- A buffer that is written: none lies in a text, which stays as it is.
+abbrev pub is_text : Value → Bool
+is_text (Point (name.Text i) at) = true
+is_text (Point (name.Array i) at) = false
+is_text (Point (name.Own i) at) = false
+is_text (Int n) = false
+is_text (Forged n) = false
+is_text (Entry f) = false
+
+abbrev pub room : Memory → Value → ℕ → Option (List ℕ)
+room m v n = if is_text v && not (n == 0) then None else buffer m v n
 
 -- How many bytes stand from a place on before the first zero byte, if that is among the first n.
 abbrev pub text_length : List ℕ → ℕ → ℕ → Option ℕ
@@ -46,15 +61,21 @@ abbrev pub where_there : List (List ℕ) → Option (List ℕ) → Option (List 
 where_there done (Some bytes) = Some done
 where_there done None = None
 
--- Inputs with that of a parameter, by its kind, its value and the next parameter's; none where its buffer or text isn't there.
-abbrev pub input_after : Memory → List (List ℕ) → Kind → Value → ℕ → Option (List (List ℕ))
-input_after m done Word v n = Some done
-input_after m done Len v n = Some done
-input_after m done In v n = with_input done (buffer m v n)
-input_after m done Text v n = with_input done (text m v)
-input_after m done Out v n = where_there done (buffer m v n)
-input_after m done Out4 v n = where_there done (buffer m v 4)
-input_after m done Out8 v n = where_there done (buffer m v 8)
+-- What a number is wanted for.
+abbrev pub on_number : {A : Type 0} → Result ℕ WrongKind → (ℕ → Option A) → Option A
+on_number (Ok n) go = go n
+on_number (Err kind) go = None
+
+-- Inputs with that of a parameter, by its kind, its value and the next parameter's; none where it isn't what the kind
+-- asks for.
+abbrev pub input_after : Memory → List (List ℕ) → Kind → Value → Value → Option (List (List ℕ))
+input_after m done Word v next = on_number (number_in v) (λ n. Some done)
+input_after m done Len v next = on_number (number_in v) (λ n. Some done)
+input_after m done In v next = on_number (number_in next) (λ n. with_input done (buffer m v n))
+input_after m done Text v next = with_input done (text m v)
+input_after m done Out v next = on_number (number_in next) (λ n. where_there done (room m v n))
+input_after m done Out4 v next = where_there done (room m v 4)
+input_after m done Out8 v next = where_there done (room m v 8)
 
 abbrev pub and_then : Option (List (List ℕ)) → (List (List ℕ) → Option (List (List ℕ))) → Option (List (List ℕ))
 and_then (Some done) go = go done
@@ -65,10 +86,22 @@ abbrev pub inputs_after : Memory → List (List ℕ) → List Kind → List Valu
 inputs_after m done [] vs = Some done
 inputs_after m done (kind ∷ kinds) [] = Some done
 inputs_after m done (kind ∷ kinds) (v ∷ vs) =
-    and_then (input_after m done kind v (int_in (value_in vs 0))) (λ done. inputs_after m done kinds vs)
+    and_then (input_after m done kind v (value_in vs 0)) (λ done. inputs_after m done kinds vs)
 
-abbrev pub inputs_of : Memory → List Kind → List Value → Option (List (List ℕ))
-inputs_of m kinds vs = inputs_after m [] kinds vs
+-- The call that starts a thread has a function as its first argument, which counts as its place there. No other call has one.
+unfoldable pub enters : UsedCall → Bool
+enters c = bytes_eq c.name (codes "nx_thread")
+
+abbrev pub inputs_by : Memory → Bool → List Kind → List Value → Option (List (List ℕ))
+inputs_by m false kinds vs = inputs_after m [] kinds vs
+inputs_by m true kinds [] = None
+inputs_by m true kinds (Entry f ∷ vs) = inputs_after m [] kinds (Int f ∷ vs)
+inputs_by m true kinds (Int n ∷ vs) = None
+inputs_by m true kinds (Point o at ∷ vs) = None
+inputs_by m true kinds (Forged n ∷ vs) = None
+
+abbrev pub inputs_of : Memory → UsedCall → List Value → Option (List (List ℕ))
+inputs_of m c vs = inputs_by m (enters c) c.kinds vs
 
 -- The pointers at which outputs are put, in their order.
 abbrev pub outputs_of : List Kind → List Value → List Value

@@ -1,5 +1,5 @@
 -- Objects, and what is read from them and stored in them.
-use Rattle.std.specs.Prelude.{ℕ, zero, suc, ◌+◌, ◌*◌, ◌%◌, ◌==◌, not, List, [], length, replicate, get_or, slice_index, slice_set, nat_le, if◌then◌else◌, Result, Ok, Err}
+use Rattle.std.specs.Prelude.{ℕ, zero, suc, ◌+◌, ◌*◌, ◌%◌, ◌^◌, ◌==◌, Bool, false, not, ◌&&◌, List, [], length, replicate, get_or, slice_get, slice_index, slice_set, nat_le, if◌then◌else◌, Option, Some, None, Result, Ok, Err}
 use Rattle.nx_base.specs.Arithmetic.{flag, alu_of}
 use Rattle.nx_base.specs.ByteLists.{get_bytes, put_bytes, from_le, to_le}
 use Rattle.nx_base.specs.declared.operations.AluOp.TheVariants as alu
@@ -8,6 +8,7 @@ use Rattle.nx_checked.specs.declared.checked.Cell.TheVariants as cell
 use Rattle.nx_checked.specs.declared.checked.Element.{Element}
 use Rattle.nx_checked.specs.declared.checked.Element.TheVariants as element
 use Rattle.nx_checked.specs.declared.checked.Shape.{Shape}
+use Rattle.nx_checked.specs.declared.checked.IntPrefix.{IntPrefix}
 use Rattle.nx_checked.specs.declared.checked.IntPrefix.TheVariants as int_prefix
 use Rattle.nx_checked.specs.declared.checked.Conversion.TheVariants as conversion
 use Rattle.nx_cobjects.specs.declared.value.Name.{Name}
@@ -20,7 +21,7 @@ use Rattle.nx_cobjects.specs.declared.value.Prefix.{Prefix}
 use Rattle.nx_cobjects.specs.declared.value.Prefix.TheVariants as before
 use Rattle.nx_cobjects.specs.declared.value.Infix.{Infix}
 use Rattle.nx_cobjects.specs.declared.value.Infix.TheVariants as between
-use Rattle.nx_cobjects.specs.Values.{int_in, moved, operated, size_of}
+use Rattle.nx_cobjects.specs.Values.{◌>>=◌, number_in, operated, same_element, size_of}
 use Rattle.nx_cobjects.specs.Groups.{Object, Group, object}
 
 -- The objects that a thread reaches: those of its group, and its own. An own object's name is its place, and none is
@@ -51,12 +52,16 @@ abbrev pub with_number : Element → List ℕ → ℕ → ℕ → List ℕ
 with_number element.Int bytes at n = put_bytes bytes (4 * at) (to_le 4 n)
 with_number element.Char bytes at n = slice_set bytes at (n % 256)
 
+-- Whether an element lies in an object of such elements.
+abbrev pub has_element : Element → Object → ℕ → Bool
+has_element w o at = same_element w o.element && nat_le (size_of w * (at + 1)) (length o.bytes)
+
 -- What is read from the element at a place.
-abbrev pub element_at : Element → List ℕ → ℕ → Result Value WrongKind
-element_at w bytes at = if nat_le (size_of w * (at + 1)) (length bytes) then Ok (Int (number_at w bytes at)) else Err wrong.Bounds
+abbrev pub element_at : Element → Object → ℕ → Result Value WrongKind
+element_at w o at = if has_element w o at then Ok (Int (number_at w o.bytes at)) else Err wrong.Bounds
 
 abbrev pub load : Memory → Element → Value → Result Value WrongKind
-load m w (Point o at) = element_at w (object_at m o).bytes at
+load m w (Point o at) = element_at w (object_at m o) at
 load m w (Forged n) = Err wrong.Forged
 load m w (Int n) = Err wrong.Bounds
 load m w (Entry f) = Err wrong.Bounds
@@ -64,7 +69,7 @@ load m w (Entry f) = Err wrong.Bounds
 -- An object with an element changed.
 abbrev pub with_element : Element → Object → ℕ → ℕ → Result Object WrongKind
 with_element w o at n =
-    if nat_le (size_of w * (at + 1)) (length o.bytes) then Ok (object o.element (with_number w o.bytes at n)) else Err wrong.Bounds
+    if has_element w o at then Ok (object o.element (with_number w o.bytes at n)) else Err wrong.Bounds
 
 -- A list of objects with one changed.
 abbrev pub put_back : List Object → ℕ → Result Object WrongKind → Result (List Object) WrongKind
@@ -91,41 +96,76 @@ store m w (Forged k) n = Err wrong.Forged
 store m w (Int k) n = Err wrong.Bounds
 store m w (Entry f) n = Err wrong.Bounds
 
+-- Whether an object is there, with such elements.
+abbrev pub is_of : Element → Option Object → Bool
+is_of w None = false
+is_of w (Some o) = same_element w o.element
+
+abbrev pub has_elements : Memory → Element → Name → Bool
+has_elements m w (name.Array i) = is_of w (slice_get m.group.arrays i)
+has_elements m w (name.Text i) = is_of w (slice_get m.group.texts i)
+has_elements m w (name.Own i) = is_of w (slice_get m.own i)
+
+-- A pointer that is moved up by n elements, of which its object must be. One that points to nothing moves by their bytes.
+abbrev pub moved : Memory → Element → Value → ℕ → Result Value WrongKind
+moved m w (Point o at) n = if has_elements m w o then Ok (Point o ((at + n) % 2 ^ 32)) else Err wrong.Bounds
+moved m w (Forged k) n = Ok (Forged ((k + size_of w * n) % 2 ^ 32))
+moved m w (Int k) n = Err wrong.Bounds
+moved m w (Entry f) n = Err wrong.Bounds
+
 -- What is done to one value.
+abbrev pub of_prefix : IntPrefix → ℕ → ℕ
+of_prefix int_prefix.Minus n = alu_of alu.Sub 0 n
+of_prefix int_prefix.Not n = flag (n == 0)
+of_prefix int_prefix.Complement n = alu_of alu.Xor n 4294967295
+
 abbrev pub prefixed : Memory → Prefix → Value → Result Value WrongKind
-prefixed m (before.Number int_prefix.Minus) v = Ok (Int (alu_of alu.Sub 0 (int_in v)))
-prefixed m (before.Number int_prefix.Not) v = Ok (Int (flag (int_in v == 0)))
-prefixed m (before.Number int_prefix.Complement) v = Ok (Int (alu_of alu.Xor (int_in v) 4294967295))
+prefixed m (before.Number op) v = do
+  n ← number_in v
+  Ok (Int (of_prefix op n))
 prefixed m (before.Cast conversion.ToInt) v = Ok v
-prefixed m (before.Cast conversion.ToChar) v = Ok (Int (int_in v % 256))
-prefixed m (before.Cast conversion.ToPointer) v = Ok (Forged (int_in v))
-prefixed m before.Truth v = Ok (Int (flag (not (int_in v == 0))))
+prefixed m (before.Cast conversion.ToChar) v = do
+  n ← number_in v
+  Ok (Int (n % 256))
+prefixed m (before.Cast conversion.ToPointer) v = do
+  n ← number_in v
+  Ok (Forged n)
+prefixed m before.Truth v = do
+  n ← number_in v
+  Ok (Int (flag (not (n == 0))))
 prefixed m (before.Load w) v = load m w v
 
 -- What is done to two values.
 abbrev pub infixed : Memory → Infix → Value → Value → Result Value WrongKind
-infixed m (between.Number op) a b = Ok (Int (operated op (int_in a) (int_in b)))
-infixed m (between.Advance w) a b = Ok (moved w a (int_in b))
-infixed m (between.AdvanceBy w) a b = Ok (moved w b (int_in a))
-infixed m (between.Retreat w) a b = Ok (moved w a (alu_of alu.Sub 0 (int_in b)))
-infixed m (between.Load w) a b = load m w (moved w a (int_in b))
+infixed m (between.Number op) a b = do
+  x ← number_in a
+  y ← number_in b
+  Ok (Int (operated op x y))
+infixed m (between.Advance w) a b = do
+  n ← number_in b
+  moved m w a n
+infixed m (between.AdvanceBy w) a b = do
+  n ← number_in a
+  moved m w b n
+infixed m (between.Retreat w) a b = do
+  n ← number_in b
+  moved m w a (alu_of alu.Sub 0 n)
+infixed m (between.Load w) a b = do
+  n ← number_in b
+  p ← moved m w a n
+  load m w p
 
--- The value of a variable, in a call with these cells.
+-- The value of a variable, in a call with these cells. One of the file has 32 bits.
 abbrev pub value_in : List Value → ℕ → Value
 value_in cells i = get_or cells i (Int 0)
 
 abbrev pub cell_value : Memory → List Value → Cell → Value
 cell_value m cells (cell.Local i) = value_in cells i
-cell_value m cells (cell.Global i) = Int (slice_index m.group.scalars i)
+cell_value m cells (cell.Global i) = Int (slice_index m.group.scalars i % 2 ^ 32)
 
--- A variable gets a value: of the call's cells, and of the group.
-abbrev pub cells_with : List Value → Cell → Value → List Value
-cells_with cells (cell.Local i) v = slice_set cells i v
-cells_with cells (cell.Global i) v = cells
-
-abbrev pub group_with : Group → Cell → Value → Group
-group_with g (cell.Local i) v = g
-group_with g (cell.Global i) v = record { scalars = slice_set g.scalars i (int_in v); arrays = g.arrays; texts = g.texts }
+-- A variable of the file gets a number.
+abbrev pub group_with : Group → ℕ → ℕ → Group
+group_with g i n = record { scalars = slice_set g.scalars i n; arrays = g.arrays; texts = g.texts }
 
 -- An array of zeros.
 abbrev pub new_object : Shape → Object

@@ -1,5 +1,5 @@
 -- Values, and what operators make of them.
-use Rattle.std.specs.Prelude.{ℕ, ◌+◌, ◌*◌, ◌%◌, ◌^◌, ◌==◌, not, int_lt, int_le}
+use Rattle.std.specs.Prelude.{ℕ, ◌%◌, ◌==◌, Bool, true, false, not, int_lt, int_le, Result, Ok, Err}
 use Rattle.nx_base.specs.Arithmetic.{signed, flag, alu_of}
 use Rattle.nx_base.specs.declared.operations.AluOp.TheVariants as alu
 use Rattle.nx_checked.specs.declared.checked.Element.{Element}
@@ -10,11 +10,21 @@ use Rattle.nx_checked.specs.declared.checked.IntOperator.{IntOperator}
 use Rattle.nx_checked.specs.declared.checked.IntOperator.TheVariants.{BitOr, BitXor, BitAnd, Equal, NotEqual, Less, AtMost, Greater, AtLeast, ShiftLeft, ShiftRight, Add, Subtract, Multiply, Divide, Remainder}
 use Rattle.nx_cobjects.specs.declared.value.Value.{Value}
 use Rattle.nx_cobjects.specs.declared.value.Value.TheVariants.{Int, Point, Forged, Entry}
+use Rattle.nx_cobjects.specs.declared.value.WrongKind.{WrongKind}
+use Rattle.nx_cobjects.specs.declared.value.WrongKind.TheVariants as wrong
 
--- The number that a value is.
-abbrev pub int_in : Value → ℕ
-int_in (Int n) = n
-int_in v = 0
+-- What is right goes on, and what is wrong stays so.
+infixl 10 ◌>>=◌
+abbrev pub ◌>>=◌ : {A B : Type 0} → Result A WrongKind → (A → Result B WrongKind) → Result B WrongKind
+(Ok a) >>= go = go a
+(Err kind) >>= go = Err kind
+
+-- The number that a value is. It is wrong where a number is wanted and the value is none.
+abbrev pub number_in : Value → Result ℕ WrongKind
+number_in (Int n) = Ok n
+number_in (Point o at) = Err wrong.Bounds
+number_in (Forged n) = Err wrong.Bounds
+number_in (Entry f) = Err wrong.Bounds
 
 -- The word that a call gets of a value.
 abbrev pub word_in : Value → ℕ
@@ -26,11 +36,19 @@ abbrev pub size_of : Element → ℕ
 size_of element.Int = 4
 size_of element.Char = 1
 
--- What a variable keeps of a value that is stored: of a char the low 8 bits.
-abbrev pub kept : Scalar → Value → Value
-kept scalar.Int v = v
-kept scalar.Char v = Int (int_in v % 256)
-kept (scalar.Pointer w) v = v
+abbrev pub same_element : Element → Element → Bool
+same_element element.Int element.Int = true
+same_element element.Char element.Char = true
+same_element element.Int element.Char = false
+same_element element.Char element.Int = false
+
+-- What a variable keeps of a value that is stored: of a char the low 8 bits of a number.
+abbrev pub kept : Scalar → Value → Result Value WrongKind
+kept scalar.Int v = Ok v
+kept scalar.Char v = do
+  n ← number_in v
+  Ok (Int (n % 256))
+kept (scalar.Pointer w) v = Ok v
 
 -- What an element keeps of a number that is stored.
 abbrev pub cut : Element → ℕ → ℕ
@@ -42,13 +60,6 @@ abbrev pub first_value : Scalar → Value
 first_value scalar.Int = Int 0
 first_value scalar.Char = Int 0
 first_value (scalar.Pointer w) = Forged 0
-
--- A pointer that is moved up by n elements. One that points to nothing moves by their bytes.
-abbrev pub moved : Element → Value → ℕ → Value
-moved w (Point o at) n = Point o ((at + n) % 2 ^ 32)
-moved w (Forged k) n = Forged ((k + size_of w * n) % 2 ^ 32)
-moved w (Int k) n = Int k
-moved w (Entry f) n = Entry f
 
 -- An operator between two numbers of 32 bits. Results wrap, comparisons and `>>` are of signed numbers, and a shift, a
 -- division by zero or one that overflows gives what RV32IM gives.

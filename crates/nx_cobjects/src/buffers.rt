@@ -1,12 +1,34 @@
 ghost use Rattle.std.specs.Prelude.{◌≡◌, ◌∷◌, [], ◌++◌, Some, None, OnOk, IfOk, if◌then◌else◌, List, ℕ, ◌≢◌};
-ghost use Rattle.nx_cobjects.specs.Values.{int_in};
+ghost use Rattle.std.specs.Prelude.{true};
+ghost use Rattle.nx_cobjects.specs.Values.{number_in};
+ghost use Rattle.nx_cobjects.specs.declared.value.Value.TheVariants.{Int};
 ghost use Rattle.nx_cobjects.specs.Memory.{memory, object_in};
-ghost use Rattle.nx_cobjects.specs.Buffers.{buffer, text, part_of, text_of, input_after, inputs_after, inputs_of, outputs_of, words_of, with_output, replied, with_input, where_there};
+ghost use Rattle.nx_cobjects.specs.Buffers.{
+  buffer,
+  is_text,
+  room,
+  text,
+  part_of,
+  text_of,
+  on_number,
+  input_after,
+  inputs_after,
+  enters,
+  inputs_by,
+  inputs_of,
+  outputs_of,
+  words_of,
+  with_output,
+  replied,
+  with_input,
+  where_there,
+};
 
 use crate::memory::{Objects, put_bytes_in, value_at};
 use crate::object::Object;
 use crate::value::{Name, Value, number, word};
 use nx_base::{Bytes, Kind};
+use nx_checked::UsedCall;
 use sqlite_items::Items;
 use std::alloc::{AllocError, Global};
 
@@ -90,7 +112,71 @@ fn put(done: &mut Items<Bytes>, bytes: Option<Bytes>) -> Result<bool, AllocError
     }
 }
 
-// Puts the input of a parameter to others. False where its buffer or text isn't there.
+// Puts the input of a buffer of so many bytes to others. False where it isn't there.
+fn put_buffer(
+    alloc: Global,
+    group: &Objects,
+    own: &[Object],
+    done: &mut Items<Bytes>,
+    v: Value,
+    next: Value,
+) -> Result<bool, AllocError>
+    ensures { IfOk result (λ ok. (if ok then Some done.new else None) ≡ on_number (number_in next) (λ n. with_input done.old (buffer (memory group.now own.now) v n))) }
+{
+    match number(next) {
+        Err(_) => Ok(false),
+        Ok(n) => {
+            let bytes = buffer(alloc, group, own, v, n)?;
+            put(done, bytes)
+        }
+    }
+}
+
+fn is_text(v: Value) -> bool
+    ensures { result ≡ is_text v }
+{
+    match v {
+        Value::Point(Name::Text(_), _) => true,
+        Value::Point(Name::Array(_), _) | Value::Point(Name::Own(_), _) => false,
+        Value::Int(_) | Value::Forged(_) | Value::Entry(_) => false,
+    }
+}
+
+// Whether a buffer that is written is there.
+fn has_room(
+    alloc: Global,
+    group: &Objects,
+    own: &[Object],
+    v: Value,
+    n: u32,
+) -> Result<bool, AllocError>
+    ensures { (done : List (List ℕ)) → IfOk result (λ ok. (if ok then Some done else None) ≡ where_there done (room (memory group.now own.now) v n)) }
+{
+    if is_text(v) && n != 0 {
+        return Ok(false);
+    }
+    match buffer(alloc, group, own, v, n)? {
+        None => Ok(false),
+        Some(_) => Ok(true),
+    }
+}
+
+fn has_room_of(
+    alloc: Global,
+    group: &Objects,
+    own: &[Object],
+    v: Value,
+    next: Value,
+) -> Result<bool, AllocError>
+    ensures { (done : List (List ℕ)) → IfOk result (λ ok. (if ok then Some done else None) ≡ on_number (number_in next) (λ n. where_there done (room (memory group.now own.now) v n))) }
+{
+    match number(next) {
+        Err(_) => Ok(false),
+        Ok(n) => has_room(alloc, group, own, v, n),
+    }
+}
+
+// Puts the input of a parameter to others. False where it isn't what its kind asks for.
 fn put_input(
     alloc: Global,
     group: &Objects,
@@ -98,39 +184,23 @@ fn put_input(
     done: &mut Items<Bytes>,
     kind: Kind,
     v: Value,
-    n: u32,
+    next: Value,
 ) -> Result<bool, AllocError>
-    ensures { IfOk result (λ ok. (if ok then Some done.new else None) ≡ input_after (memory group.now own.now) done.old kind v n) }
+    ensures { IfOk result (λ ok. (if ok then Some done.new else None) ≡ input_after (memory group.now own.now) done.old kind v next) }
 {
     match kind {
-        Kind::Word | Kind::Len => Ok(true),
-        Kind::In => {
-            let bytes = buffer(alloc, group, own, v, n)?;
-            put(done, bytes)
-        }
+        Kind::Word | Kind::Len => match number(v) {
+            Err(_) => Ok(false),
+            Ok(_) => Ok(true),
+        },
+        Kind::In => put_buffer(alloc, group, own, done, v, next),
         Kind::Text => {
             let bytes = text(alloc, group, own, v)?;
             put(done, bytes)
         }
-        Kind::Out => is_there(alloc, group, own, v, n),
-        Kind::Out4 => is_there(alloc, group, own, v, 4),
-        Kind::Out8 => is_there(alloc, group, own, v, 8),
-    }
-}
-
-// Whether a buffer is there.
-fn is_there(
-    alloc: Global,
-    group: &Objects,
-    own: &[Object],
-    v: Value,
-    n: u32,
-) -> Result<bool, AllocError>
-    ensures { (done : List (List ℕ)) → IfOk result (λ ok. (if ok then Some done else None) ≡ where_there done (buffer (memory group.now own.now) v n)) }
-{
-    match buffer(alloc, group, own, v, n)? {
-        None => Ok(false),
-        Some(_) => Ok(true),
+        Kind::Out => has_room_of(alloc, group, own, v, next),
+        Kind::Out4 => has_room(alloc, group, own, v, 4),
+        Kind::Out8 => has_room(alloc, group, own, v, 8),
     }
 }
 
@@ -149,7 +219,7 @@ fn put_inputs(
         [kind, kinds @ ..] => match values {
             [] => Ok(true),
             [v, values @ ..] => {
-                let next = number(value_at(values, 0));
+                let next = value_at(values, 0);
                 if put_input(alloc, group, own, done, *kind, *v, next)? {
                     put_inputs(alloc, group, own, done, kinds, values)
                 } else {
@@ -160,22 +230,76 @@ fn put_inputs(
     }
 }
 
-/// The bytes that go with a call whose parameters have these kinds and values. None where a buffer or a text isn't there.
+// The same where the first value is a function's place.
+fn put_entry(
+    alloc: Global,
+    group: &Objects,
+    own: &[Object],
+    done: &mut Items<Bytes>,
+    kinds: &[Kind],
+    function: u32,
+    values: &[Value],
+) -> Result<bool, AllocError>
+    ensures { IfOk result (λ ok. (if ok then Some done.new else None) ≡ inputs_after (memory group.now own.now) done.old kinds.now (Int function ∷ values.now)) }
+{
+    match kinds {
+        [] => Ok(true),
+        [kind, kinds @ ..] => {
+            let next = value_at(values, 0);
+            if put_input(alloc, group, own, done, *kind, Value::Int(function), next)? {
+                put_inputs(alloc, group, own, done, kinds, values)
+            } else {
+                Ok(false)
+            }
+        }
+    }
+}
+
+fn put_thread(
+    alloc: Global,
+    group: &Objects,
+    own: &[Object],
+    done: &mut Items<Bytes>,
+    kinds: &[Kind],
+    values: &[Value],
+) -> Result<bool, AllocError>
+    requires { done.old ≡ [] }
+    ensures { IfOk result (λ ok. (if ok then Some done.new else None) ≡ inputs_by (memory group.now own.now) true kinds.now values.now) }
+{
+    match values {
+        [] => Ok(false),
+        [v, values @ ..] => match *v {
+            Value::Entry(f) => put_entry(alloc, group, own, done, kinds, f, values),
+            Value::Int(_) | Value::Point(_, _) | Value::Forged(_) => Ok(false),
+        },
+    }
+}
+
+/// Whether a call starts a thread: its first argument is a function.
+#[tactic(auto, unfolding(crate::specs::Buffers::enters))]
+fn enters(c: &UsedCall) -> bool
+    ensures { result ≡ enters c.now }
+{
+    c.name.as_slice() == b"nx_thread".as_slice()
+}
+
+/// The bytes that go with a call whose parameters have these values. None where a value isn't what its parameter asks for.
 pub fn inputs(
     alloc: Global,
     group: &Objects,
     own: &[Object],
-    kinds: &[Kind],
+    c: &UsedCall,
     values: &[Value],
 ) -> Result<Option<Items<Bytes>>, AllocError>
-    ensures { IfOk result (λ r. r ≡ inputs_of (memory group.now own.now) kinds.now values.now) }
+    ensures { IfOk result (λ r. r ≡ inputs_of (memory group.now own.now) c.now values.now) }
 {
     let mut done = Items::new(alloc);
-    if put_inputs(alloc, group, own, &mut done, kinds, values)? {
-        Ok(Some(done))
+    let there = if enters(c) {
+        put_thread(alloc, group, own, &mut done, c.kinds.as_slice(), values)?
     } else {
-        Ok(None)
-    }
+        put_inputs(alloc, group, own, &mut done, c.kinds.as_slice(), values)?
+    };
+    if there { Ok(Some(done)) } else { Ok(None) }
 }
 
 fn push_outputs(done: &mut Items<Value>, kinds: &[Kind], values: &[Value]) -> Result<(), AllocError>

@@ -5,14 +5,16 @@
 mod buffers;
 mod memory;
 mod object;
+mod operators;
 mod value;
 
 pub use buffers::{inputs, outputs, put_replies, words};
-pub use memory::{
-    Objects, apply_infix, apply_prefix, cell, end_arrays, load, new_array, put_cell, store,
-    value_at,
-};
+pub use memory::{Objects, cell, end_arrays, load, new_array, put_local, store, value_at};
 pub use object::Object;
+pub use operators::{apply_infix, apply_prefix, moved};
 pub use value::{
-    Infix, Name, Prefix, Value, WrongKind, kept, moved, negated, number, operate, size, word,
+    Infix, Name, Prefix, Value, WrongKind, kept, negated, number, operate, size, word,
 };
+
+#[cfg(test)]
+mod tests;

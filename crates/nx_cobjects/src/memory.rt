@@ -1,5 +1,5 @@
-ghost use Rattle.std.specs.Prelude.{◌≡◌, ◌∷◌, [], ◌++◌, Ok, Err, OnOk, IfOk, if◌then◌else◌, slice_set, slice_index, map};
-ghost use Rattle.nx_cobjects.specs.Memory.{memory, load, store, with_elements, object_in, element_at, prefixed, infixed, cell_value, group_with, new_object, ended, end_arrays, value_in, cells_with};
+ghost use Rattle.std.specs.Prelude.{◌≡◌, ◌∷◌, [], ◌++◌, Ok, Err, OnOk, IfOk, if◌then◌else◌, slice_set, slice_index, map, ◌%◌, ◌^◌};
+ghost use Rattle.nx_cobjects.specs.Memory.{memory, load, store, with_elements, object_in, element_at, cell_value, group_with, new_object, ended, end_arrays, value_in};
 ghost use Rattle.nx_cobjects.specs.Buffers.{with_bytes_in};
 ghost use Rattle.nx_cobjects.specs.Memories.{stored_of};
 ghost use Rattle.nx_cobjects.specs.Starts.{first_group, array_of};
@@ -8,10 +8,9 @@ ghost use Rattle.nx_checked.specs.declared.checked.Element.TheVariants as elemen
 ghost use Rattle.nx_cobjects.specs.declared.value.WrongKind.TheVariants.{Bounds};
 
 use crate::object::Object;
-use crate::value::{Infix, Name, Prefix, Value, WrongKind, kept, moved, negated, number, operate};
-use nx_alu::alu;
-use nx_base::{AluOp, Bytes, OutOfMemory};
-use nx_checked::{Cell, Checked, Conversion, Element, GlobalArray, GlobalScalar, IntPrefix, Shape};
+use crate::value::{Name, Value, WrongKind};
+use nx_base::{Bytes, OutOfMemory};
+use nx_checked::{Cell, Checked, Element, GlobalArray, GlobalScalar, Shape};
 use std::alloc::{AllocError, Global};
 use std::marker::Model;
 
@@ -57,8 +56,9 @@ impl Objects {
         &self.texts
     }
 
+    #[tactic(auto, using(crate::proofs::Bits::word))]
     fn scalar(&self, i: usize) -> u32
-        ensures { result ≡ slice_index self.now.scalars i }
+        ensures { result ≡ slice_index self.now.scalars i % 2 ^ 32 }
     {
         if i < self.scalars.len() {
             self.scalars[i]
@@ -67,8 +67,9 @@ impl Objects {
         }
     }
 
-    fn put_scalar(&mut self, i: usize, n: u32)
-        ensures { self.new ≡ record { scalars = slice_set self.old.scalars i n; arrays = self.old.arrays; texts = self.old.texts } }
+    /// A variable of the file gets a number.
+    pub fn put_scalar(&mut self, i: usize, n: u32)
+        ensures { self.new ≡ group_with self.old i n }
     {
         if i < self.scalars.len() {
             self.scalars[i] = n;
@@ -132,7 +133,7 @@ fn first_texts(alloc: Global, texts: &[Bytes]) -> Result<Vec<Object>, AllocError
 }
 
 fn get_in(objects: &[Object], element: Element, i: usize, at: u32) -> Result<Value, WrongKind>
-    ensures { result ≡ element_at element (object_in objects.now i).bytes at }
+    ensures { result ≡ element_at element (object_in objects.now i) at }
 {
     match objects.get(i) {
         Some(o) => o.get(element, at),
@@ -237,48 +238,6 @@ pub fn store(
     }
 }
 
-/// What is done to one value.
-pub fn apply_prefix(
-    group: &Objects,
-    own: &[Object],
-    op: Prefix,
-    v: Value,
-) -> Result<Value, WrongKind>
-    ensures { result ≡ prefixed (memory group.now own.now) op v }
-{
-    match op {
-        Prefix::Number(IntPrefix::Minus) => Ok(Value::Int(negated(number(v)))),
-        Prefix::Number(IntPrefix::Not) => Ok(Value::Int(u32::from(number(v) == 0))),
-        Prefix::Number(IntPrefix::Complement) => {
-            Ok(Value::Int(alu(AluOp::Xor, number(v), 4294967295)))
-        }
-        Prefix::Cast(Conversion::ToInt) => Ok(v),
-        Prefix::Cast(Conversion::ToChar) => Ok(Value::Int(number(v) % 256)),
-        Prefix::Cast(Conversion::ToPointer) => Ok(Value::Forged(number(v))),
-        Prefix::Truth => Ok(Value::Int(u32::from(number(v) != 0))),
-        Prefix::Load(element) => load(group, own, element, v),
-    }
-}
-
-/// What is done to two values.
-pub fn apply_infix(
-    group: &Objects,
-    own: &[Object],
-    op: Infix,
-    a: Value,
-    b: Value,
-) -> Result<Value, WrongKind>
-    ensures { result ≡ infixed (memory group.now own.now) op a b }
-{
-    match op {
-        Infix::Number(op) => Ok(Value::Int(operate(op, number(a), number(b)))),
-        Infix::Advance(element) => Ok(moved(element, a, number(b))),
-        Infix::AdvanceBy(element) => Ok(moved(element, b, number(a))),
-        Infix::Retreat(element) => Ok(moved(element, a, negated(number(b)))),
-        Infix::Load(element) => load(group, own, element, moved(element, a, number(b))),
-    }
-}
-
 /// The value at a place of a call's cells; the number 0 outside them.
 pub fn value_at(cells: &[Value], i: usize) -> Value
     ensures { result ≡ value_in cells.now i }
@@ -300,21 +259,11 @@ pub fn cell(group: &Objects, own: &[Object], cells: &[Value], x: Cell) -> Value
     }
 }
 
-fn put_local(cells: &mut [Value], i: usize, v: Value)
+/// Gives a variable of a call a value.
+pub fn put_local(cells: &mut [Value], i: usize, v: Value)
     ensures { cells.new ≡ slice_set cells.old i v }
 {
     if i < cells.len() {
         cells[i] = v;
-    }
-}
-
-/// Gives a variable a value.
-pub fn put_cell(group: &mut Objects, cells: &mut [Value], x: Cell, v: Value)
-    ensures group { group.new ≡ group_with group.old x v }
-    ensures cells { cells.new ≡ cells_with cells.old x v }
-{
-    match x {
-        Cell::Local(i) => put_local(cells, i as usize, v),
-        Cell::Global(i) => group.put_scalar(i as usize, number(v)),
     }
 }

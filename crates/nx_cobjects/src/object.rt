@@ -1,11 +1,12 @@
 ghost use Rattle.std.specs.Prelude.{◌≡◌, ◌+◌, ◌*◌, ◌≤◌, length, IfOk, IfSome, Ok, Err, if◌then◌else◌, option_map};
 ghost use Rattle.nx_base.specs.ByteLists.{put_bytes};
 ghost use Rattle.nx_cobjects.specs.Groups.{object};
+ghost use Rattle.nx_cobjects.specs.Values.{same_element};
 ghost use Rattle.nx_cobjects.specs.Memory.{element_at, with_element, ended, new_object};
 ghost use Rattle.nx_cobjects.specs.Buffers.{part_of, text_of, text_length, with_bytes};
 ghost use Rattle.nx_cobjects.specs.declared.value.WrongKind.TheVariants.{Bounds};
 
-use crate::value::{Value, WrongKind, size};
+use crate::value::{Value, WrongKind, same_element, size};
 use nx_base::{Bytes, get_le32, put_le32};
 use nx_checked::{Element, Shape};
 use std::alloc::{AllocError, Global};
@@ -48,10 +49,20 @@ impl Object {
         })
     }
 
+    /// Whether it has such elements.
+    pub fn is_of(&self, element: Element) -> bool
+        ensures { result ≡ same_element element self.now.element }
+    {
+        same_element(element, self.element)
+    }
+
     /// What is read from the element at a place.
     pub fn get(&self, element: Element, at: u32) -> Result<Value, WrongKind>
-        ensures { result ≡ element_at element self.now.bytes at }
+        ensures { result ≡ element_at element self.now at }
     {
+        if !same_element(element, self.element) {
+            return Err(WrongKind::Bounds);
+        }
         let at = at as usize;
         if size(element) * (at + 1) > self.bytes.len() {
             return Err(WrongKind::Bounds);
@@ -66,6 +77,9 @@ impl Object {
     pub fn put(&mut self, element: Element, at: u32, n: u32) -> bool
         ensures { with_element element self.old at n ≡ (if result then Ok self.new else Err Bounds) }
     {
+        if !same_element(element, self.element) {
+            return false;
+        }
         let at = at as usize;
         if size(element) * (at + 1) > self.bytes.len() {
             return false;

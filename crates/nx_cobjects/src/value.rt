@@ -1,5 +1,5 @@
 ghost use Rattle.std.specs.Prelude.{◌≡◌};
-ghost use Rattle.nx_cobjects.specs.Values.{int_in, kept, moved, operated, size_of, word_in};
+ghost use Rattle.nx_cobjects.specs.Values.{kept, number_in, operated, same_element, size_of, word_in};
 ghost use Rattle.nx_base.specs.Arithmetic.{alu_of};
 
 use nx_alu::alu;
@@ -31,7 +31,7 @@ pub enum Value {
 /// What a thread does wrong.
 #[derive(Clone, Copy)]
 pub enum WrongKind {
-    /// An access outside its object.
+    /// An access outside its object, or a value that isn't what its place asks for.
     Bounds,
     /// An access through a pointer that points to nothing.
     Forged,
@@ -68,13 +68,13 @@ pub enum Infix {
     Load(Element),
 }
 
-/// The number that a value is; 0 for any other.
-pub fn number(v: Value) -> u32
-    ensures { result ≡ int_in v }
+/// The number that a value is, where one is wanted. Any other value is wrong.
+pub fn number(v: Value) -> Result<u32, WrongKind>
+    ensures { result ≡ number_in v }
 {
     match v {
-        Value::Int(n) => n,
-        _ => 0,
+        Value::Int(n) => Ok(n),
+        Value::Point(_, _) | Value::Forged(_) | Value::Entry(_) => Err(WrongKind::Bounds),
     }
 }
 
@@ -98,27 +98,32 @@ pub fn size(element: Element) -> usize
     }
 }
 
-/// What a variable keeps of a value that is stored.
-pub fn kept(scalar: Scalar, v: Value) -> Value
-    ensures { result ≡ kept scalar v }
+/// Whether two objects have the same elements.
+pub fn same_element(a: Element, b: Element) -> bool
+    ensures { result ≡ same_element a b }
 {
-    match scalar {
-        Scalar::Int | Scalar::Pointer(_) => v,
-        Scalar::Char => Value::Int(number(v) % 256),
+    match a {
+        Element::Int => match b {
+            Element::Int => true,
+            Element::Char => false,
+        },
+        Element::Char => match b {
+            Element::Int => false,
+            Element::Char => true,
+        },
     }
 }
 
-/// A pointer that is moved up by `n` elements.
-pub fn moved(element: Element, v: Value, n: u32) -> Value
-    ensures { result ≡ moved element v n }
+/// What a variable keeps of a value that is stored.
+pub fn kept(scalar: Scalar, v: Value) -> Result<Value, WrongKind>
+    ensures { result ≡ kept scalar v }
 {
-    match v {
-        Value::Point(object, place) => Value::Point(object, place.wrapping_add(n)),
-        Value::Forged(k) => match element {
-            Element::Int => Value::Forged(k.wrapping_add(n.wrapping_mul(4))),
-            Element::Char => Value::Forged(k.wrapping_add(n)),
-        },
-        other => other,
+    match scalar {
+        Scalar::Int | Scalar::Pointer(_) => Ok(v),
+        Scalar::Char => {
+            let n = number(v)?;
+            Ok(Value::Int(n % 256))
+        }
     }
 }
 

@@ -1,14 +1,14 @@
-ghost use Rattle.std.specs.Prelude.{◌≡◌, OnOk, option_map};
+ghost use Rattle.std.specs.Prelude.{◌≡◌, [], OnOk, option_map};
 ghost use Rattle.nx_checked.specs.Trees.{program_of, expr_of, stmt_of};
 ghost use Rattle.nx_cmean.specs.Items.{Enter, AndThen, OrElse, Choose, Test, TestLoop};
-ghost use Rattle.nx_cmean.specs.Meaning.{decided_frame, decide, decided};
+ghost use Rattle.nx_cmean.specs.Meaning.{decided_frame, decide, decided, stays, opened_with, with_values, all_kept, fun_at};
 ghost use Rattle.nx_cmean.specs.Shape.{item_of, items_of};
 ghost use Rattle.nx_cthread.specs.Threads.{frame_of, frames_of};
 
-use crate::entry::{Frame, open, take_args};
+use crate::entry::{Frame, keep_args, open, take_args};
 use nx_checked::{Checked, CheckedExpr, CheckedStmt};
 use nx_cmean::{Item, Stack, another_option, put_expr, put_option};
-use nx_cobjects::{Prefix, number};
+use nx_cobjects::{Prefix, Value};
 use nx_shared::Shared;
 use std::alloc::{AllocError, Global};
 
@@ -17,15 +17,21 @@ fn and_then(frame: &mut Frame, b: Shared<CheckedExpr>) -> Result<(), AllocError>
 {
     match frame.values.pop() {
         None => frame.todo.push(Item::AndThen(b)),
-        Some(v) => {
-            if number(v) == 0 {
-                frame.values.push(v)?;
-                frame.todo.push(Item::Alter(Prefix::Truth))
-            } else {
-                frame.todo.push(Item::Alter(Prefix::Truth))?;
-                put_expr(&mut frame.todo, b.get())
+        Some(v) => match v {
+            Value::Int(n) => {
+                if n == 0 {
+                    frame.values.push(v)?;
+                    frame.todo.push(Item::Alter(Prefix::Truth))
+                } else {
+                    frame.todo.push(Item::Alter(Prefix::Truth))?;
+                    put_expr(&mut frame.todo, b.get())
+                }
             }
-        }
+            Value::Point(_, _) | Value::Forged(_) | Value::Entry(_) => {
+                frame.values.push(v)?;
+                frame.todo.push(Item::AndThen(b))
+            }
+        },
     }
 }
 
@@ -34,15 +40,21 @@ fn or_else(frame: &mut Frame, b: Shared<CheckedExpr>) -> Result<(), AllocError>
 {
     match frame.values.pop() {
         None => frame.todo.push(Item::OrElse(b)),
-        Some(v) => {
-            if number(v) == 0 {
-                frame.todo.push(Item::Alter(Prefix::Truth))?;
-                put_expr(&mut frame.todo, b.get())
-            } else {
-                frame.values.push(v)?;
-                frame.todo.push(Item::Alter(Prefix::Truth))
+        Some(v) => match v {
+            Value::Int(n) => {
+                if n == 0 {
+                    frame.todo.push(Item::Alter(Prefix::Truth))?;
+                    put_expr(&mut frame.todo, b.get())
+                } else {
+                    frame.values.push(v)?;
+                    frame.todo.push(Item::Alter(Prefix::Truth))
+                }
             }
-        }
+            Value::Point(_, _) | Value::Forged(_) | Value::Entry(_) => {
+                frame.values.push(v)?;
+                frame.todo.push(Item::OrElse(b))
+            }
+        },
     }
 }
 
@@ -55,14 +67,20 @@ fn choose(
 {
     match frame.values.pop() {
         None => frame.todo.push(Item::Choose(a, b)),
-        Some(v) => {
-            frame.todo.push(Item::Chosen)?;
-            if number(v) == 0 {
-                put_expr(&mut frame.todo, b.get())
-            } else {
-                put_expr(&mut frame.todo, a.get())
+        Some(v) => match v {
+            Value::Int(n) => {
+                frame.todo.push(Item::Chosen)?;
+                if n == 0 {
+                    put_expr(&mut frame.todo, b.get())
+                } else {
+                    put_expr(&mut frame.todo, a.get())
+                }
             }
-        }
+            Value::Point(_, _) | Value::Forged(_) | Value::Entry(_) => {
+                frame.values.push(v)?;
+                frame.todo.push(Item::Choose(a, b))
+            }
+        },
     }
 }
 
@@ -75,16 +93,22 @@ fn test(
 {
     match frame.values.pop() {
         None => frame.todo.push(Item::Test(a, b)),
-        Some(v) => {
-            if number(v) == 0 {
-                match b {
-                    None => Ok(()),
-                    Some(b) => frame.todo.push(Item::Exec(b)),
+        Some(v) => match v {
+            Value::Int(n) => {
+                if n == 0 {
+                    match b {
+                        None => Ok(()),
+                        Some(b) => frame.todo.push(Item::Exec(b)),
+                    }
+                } else {
+                    frame.todo.push(Item::Exec(a))
                 }
-            } else {
-                frame.todo.push(Item::Exec(a))
             }
-        }
+            Value::Point(_, _) | Value::Forged(_) | Value::Entry(_) => {
+                frame.values.push(v)?;
+                frame.todo.push(Item::Test(a, b))
+            }
+        },
     }
 }
 
@@ -98,15 +122,21 @@ fn test_loop(
 {
     match frame.values.pop() {
         None => frame.todo.push(Item::TestLoop(c, t, s)),
-        Some(v) => {
-            if number(v) == 0 {
-                Ok(())
-            } else {
-                let body = s.another()?;
-                frame.todo.push(Item::Turn(Some(c), t, s))?;
-                frame.todo.push(Item::Exec(body))
+        Some(v) => match v {
+            Value::Int(n) => {
+                if n == 0 {
+                    Ok(())
+                } else {
+                    let body = s.another()?;
+                    frame.todo.push(Item::Turn(Some(c), t, s))?;
+                    frame.todo.push(Item::Exec(body))
+                }
             }
-        }
+            Value::Point(_, _) | Value::Forged(_) | Value::Entry(_) => {
+                frame.values.push(v)?;
+                frame.todo.push(Item::TestLoop(c, t, s))
+            }
+        },
     }
 }
 
@@ -138,7 +168,33 @@ fn decide_frame(frame: &mut Frame, item: Item) -> Result<(), AllocError>
     }
 }
 
-// A call of a function begins.
+// A call of a function begins, or stays where an argument isn't what its parameter can keep.
+fn enter_with(
+    alloc: Global,
+    program: &Checked,
+    names: u32,
+    frames: &mut Stack<Frame>,
+    mut frame: Frame,
+    function: u32,
+    count: usize,
+    args: &[Value],
+) -> Result<(), AllocError>
+    ensures { OnOk result (frames_of frames.new ≡ opened_with (program_of program.now) function names (frame_of frame) (frames_of frames.old) (stays (with_values (frame_of frame) []) (Enter function count)) (all_kept [] (fun_at (program_of program.now) function).params args.now)) }
+{
+    let mut params = Vec::new(alloc);
+    match keep_args(program, function, &mut params, args)? {
+        Some(_) => {
+            frame.values = Stack::new(alloc);
+            frame.todo.push(Item::Enter(function, count))?;
+            frames.push(frame)
+        }
+        None => {
+            frames.push(frame)?;
+            frames.push(open(alloc, program, function, names, params)?)
+        }
+    }
+}
+
 fn enter(
     alloc: Global,
     program: &Checked,
@@ -158,10 +214,7 @@ fn enter(
             frame.todo.push(Item::Enter(function, count))?;
             frames.push(frame)
         }
-        Some(args) => {
-            frames.push(frame)?;
-            frames.push(open(alloc, program, function, names, args)?)
-        }
+        Some(args) => enter_with(alloc, program, names, frames, frame, function, count, &args),
     }
 }
 

@@ -1,14 +1,14 @@
 ghost use Rattle.std.specs.Prelude.{◌≡◌, ◌∷◌, [], ◌++◌, map, get_or, IfOk, OnOk, IfNone, MatchOption};
 ghost use Rattle.nx_checked.specs.Trees.{expr_of, stmts_of, fun_of, program_of};
-ghost use Rattle.nx_cobjects.specs.Values.{first_value, kept, size_of};
+ghost use Rattle.nx_cobjects.specs.Values.{kept, size_of};
 ghost use Rattle.nx_cmean.specs.Items.{starts_then, gaps_then, arrays_then, initials_then, rest_then, entry_then, steps_of};
-ghost use Rattle.nx_cmean.specs.Meaning.{all_kept, taken, opened, opened_fun, no_fun};
+ghost use Rattle.nx_cmean.specs.Meaning.{all_kept, taken, opened, opened_fun, fun_at, no_fun};
 ghost use Rattle.nx_cmean.specs.Shape.{items_of};
-ghost use Rattle.nx_cthread.specs.Threads.{frame_of, taken_of};
+ghost use Rattle.nx_cthread.specs.Threads.{frame_of, taken_of, unless};
 
 use nx_checked::{Checked, CheckedExpr, CheckedFunction, Scalar, Shape};
 use nx_cmean::{Item, Stack, put_expr, put_rest};
-use nx_cobjects::{Value, kept, size};
+use nx_cobjects::{Value, WrongKind, kept, size};
 use std::alloc::{AllocError, Global};
 
 /// A call of a function that isn't over.
@@ -98,25 +98,47 @@ fn put_entry(todo: &mut Stack<Item>, f: &CheckedFunction) -> Result<(), AllocErr
     put_starts(todo, f.locals.as_slice())
 }
 
-// Puts what parameters keep of arguments.
-fn keep_all(cells: &mut Vec<Value>, params: &[Scalar], args: &[Value]) -> Result<(), AllocError>
-    ensures { OnOk result (cells.new.items ≡ cells.old.items ++ all_kept params.now args.now) }
+// Puts what parameters keep of arguments. Some says what is wrong.
+fn keep_all(
+    cells: &mut Vec<Value>,
+    params: &[Scalar],
+    args: &[Value],
+) -> Result<Option<WrongKind>, AllocError>
+    ensures { IfOk result (λ r. unless r cells.new.items ≡ all_kept cells.old.items params.now args.now) }
 {
     match params {
         [] => match args {
-            [] => Ok(()),
+            [] => Ok(None),
             [v, args @ ..] => {
                 cells.push(*v)?;
                 keep_all(cells, params, args)
             }
         },
         [s, params @ ..] => match args {
-            [] => Ok(()),
-            [v, args @ ..] => {
-                cells.push(kept(*s, *v))?;
-                keep_all(cells, params, args)
-            }
+            [] => Ok(None),
+            [v, args @ ..] => match kept(*s, *v) {
+                Err(kind) => Ok(Some(kind)),
+                Ok(v) => {
+                    cells.push(v)?;
+                    keep_all(cells, params, args)
+                }
+            },
         },
+    }
+}
+
+/// Puts what the parameters of a function keep of arguments. Some says what is wrong.
+pub fn keep_args(
+    program: &Checked,
+    function: u32,
+    cells: &mut Vec<Value>,
+    args: &[Value],
+) -> Result<Option<WrongKind>, AllocError>
+    ensures { IfOk result (λ r. unless r cells.new.items ≡ all_kept cells.old.items (fun_at (program_of program.now) function).params args.now) }
+{
+    match function_at(program.functions.as_slice(), function as usize) {
+        None => keep_all(cells, &[], args),
+        Some(f) => keep_all(cells, f.params.as_slice(), args),
     }
 }
 
@@ -125,19 +147,17 @@ fn open_function(
     f: &CheckedFunction,
     function: u32,
     names: u32,
-    args: Vec<Value>,
+    params: Vec<Value>,
 ) -> Result<Frame, AllocError>
-    ensures { IfOk result (λ r. frame_of r ≡ opened_fun (fun_of f.now) function names args.items) }
+    ensures { IfOk result (λ r. frame_of r ≡ opened_fun (fun_of f.now) function names params.items) }
 {
     let mut todo = Stack::new(alloc);
     put_entry(&mut todo, f)?;
-    let mut cells = Vec::new(alloc);
-    keep_all(&mut cells, f.params.as_slice(), &args)?;
     Ok(Frame {
         function,
         from: names,
         arrays: f.arrays.len(),
-        cells,
+        cells: params,
         values: Stack::new(alloc),
         todo,
     })
@@ -147,9 +167,9 @@ fn open_nothing(
     alloc: Global,
     function: u32,
     names: u32,
-    args: Vec<Value>,
+    params: Vec<Value>,
 ) -> Result<Frame, AllocError>
-    ensures { IfOk result (λ r. frame_of r ≡ opened_fun no_fun function names args.items) }
+    ensures { IfOk result (λ r. frame_of r ≡ opened_fun no_fun function names params.items) }
 {
     let mut todo = Stack::new(alloc);
     todo.push(Item::Fall)?;
@@ -157,7 +177,7 @@ fn open_nothing(
         function,
         from: names,
         arrays: 0,
-        cells: args,
+        cells: params,
         values: Stack::new(alloc),
         todo,
     })
@@ -173,19 +193,19 @@ fn function_at(functions: &[CheckedFunction], place: usize) -> Option<&CheckedFu
     }
 }
 
-/// A call of a function begins, where the thread has had so many objects.
+/// A call of a function begins with its parameters, where the thread has had so many objects.
 pub fn open(
     alloc: Global,
     program: &Checked,
     function: u32,
     names: u32,
-    args: Vec<Value>,
+    params: Vec<Value>,
 ) -> Result<Frame, AllocError>
-    ensures { IfOk result (λ r. frame_of r ≡ opened (program_of program.now) function names args.items) }
+    ensures { IfOk result (λ r. frame_of r ≡ opened (program_of program.now) function names params.items) }
 {
     match function_at(program.functions.as_slice(), function as usize) {
-        None => open_nothing(alloc, function, names, args),
-        Some(f) => open_function(alloc, f, function, names, args),
+        None => open_nothing(alloc, function, names, params),
+        Some(f) => open_function(alloc, f, function, names, params),
     }
 }
 

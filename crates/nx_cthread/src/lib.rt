@@ -3,8 +3,12 @@
 
 mod decide;
 mod entry;
+mod evaluate;
 mod step;
 mod store;
 mod thread;
 
 pub use thread::{CCall, CStep, CThread};
+
+#[cfg(test)]
+mod tests;

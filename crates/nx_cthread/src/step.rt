@@ -2,7 +2,6 @@ ghost use Rattle.std.specs.Prelude.{◌≡◌, ◌∷◌, [], IfOk, Ok, Err, sli
 ghost use Rattle.nx_base.specs.Arithmetic.{signed};
 ghost use Rattle.nx_checked.specs.Trees.{program_of};
 ghost use Rattle.nx_cobjects.specs.Memory.{memory};
-ghost use Rattle.nx_cobjects.specs.Values.{int_in};
 ghost use Rattle.nx_cmean.specs.Items.{Ask};
 ghost use Rattle.nx_cmean.specs.Meaning.{act, asked, left, turn, thread, on_call, goes_on, stored};
 ghost use Rattle.nx_cmean.specs.Shape.{item_of, items_of};
@@ -31,7 +30,7 @@ fn ask_call(
     requires { waiting.old ≡ [] }
     ensures { IfOk result (λ s. answer_of s group.now (thread own.now (frames_of frames.new) waiting.new) ≡ asked (memory group.now own.now) (frames_of frames.old) (frame_of frame) args.now (frame_of frame).values c.now) }
 {
-    match inputs(alloc, group, own, c.kinds.as_slice(), args)? {
+    match inputs(alloc, group, own, c, args)? {
         None => Ok(CStep::Wrong(WrongKind::Buffer)),
         Some(buffers) => {
             *waiting = outputs(alloc, c.kinds.as_slice(), args)?;
@@ -79,7 +78,10 @@ fn leave(
     ensures { IfOk result (λ s. answer_of s group.now (thread own.new (frames_of frames.new) []) ≡ left (memory group.now own.old) (frame_of frame) (frames_of frames.old) value) }
 {
     match frames.pop() {
-        None => Ok(CStep::Ends(number(value).cast_signed())),
+        None => match number(value) {
+            Err(kind) => Ok(CStep::Wrong(kind)),
+            Ok(n) => Ok(CStep::Ends(n.cast_signed())),
+        },
         Some(mut below) => {
             end_arrays(own, frame.from as usize, frame.arrays);
             below.values.push(value)?;

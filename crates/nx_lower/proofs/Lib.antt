@@ -2,6 +2,7 @@ mod Parts
 mod Objects
 mod Cells
 mod Steps
+mod Idle
 mod Lies
 mod Spread
 mod Operands
@@ -11,3 +12,12 @@ mod Storing
 mod Rows
 mod Stepping
 mod Outputs
+mod Begun
+mod Statements
+mod Entry
+mod Inputs
+mod Handing
+mod Running
+mod Following
+mod Asking
+mod Leaving

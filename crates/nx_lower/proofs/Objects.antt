@@ -1,10 +1,10 @@
 -- The objects of C and those of slot code are read and changed alike.
-use Rattle.std.proofs.Common.{◌≡◌, ℕ, zero, suc, ◌+◌, ◌*◌, ◌<◌, ◌≤◌, ◌^◌, Bool, true, false, List, [], ◌∷◌, ◌++◌, length, map, refl, sym, ap, ◌∙◌, subst, arith, append_assoc}
-use Rattle.std.specs.Prelude.{get_or, replicate, slice_index, slice_set, nat_le, ◌&&◌, if◌then◌else◌, Result, Ok, Err}
+use Rattle.std.proofs.Common.{◌≡◌, ℕ, zero, suc, ◌+◌, ◌*◌, ◌%◌, ◌<◌, ◌≤◌, ◌^◌, Bool, true, false, List, [], ◌∷◌, ◌++◌, length, map, refl, sym, ap, ◌∙◌, subst, arith, append_assoc}
+use Rattle.std.specs.Prelude.{get_or, replicate, slice_get, slice_index, slice_set, nat_le, ◌&&◌, if◌then◌else◌, Result, Ok, Err}
+use Rattle.std.proofs.lemmas.Bool.{false≢true}
 use Rattle.std.proofs.lemmas.Bool.Decides.{nat_tests}
 use Rattle.std.proofs.lemmas.List.{length-map, length-set, map-append}
 use Rattle.nx_base.specs.ByteLists.{get_bytes, put_bytes, from_le, to_le}
-use Rattle.nx_base.proofs.ByteLemmas.{from_le-to_le_word}
 use Rattle.nx_checked.specs.declared.checked.Element.{Element}
 use Rattle.nx_checked.specs.declared.checked.Element.TheVariants as element
 use Rattle.nx_checked.specs.declared.checked.Shape.{Shape}
@@ -16,8 +16,9 @@ use Rattle.nx_cobjects.specs.declared.value.Value.TheVariants as value
 use Rattle.nx_cobjects.specs.declared.value.WrongKind.{WrongKind}
 use Rattle.nx_cobjects.specs.declared.value.WrongKind.TheVariants as wrong
 use Rattle.nx_cobjects.specs.Groups.{Object, object}
-use Rattle.nx_cobjects.specs.Values.{size_of}
-use Rattle.nx_cobjects.specs.Memory.{Memory, memory, object_in, object_at, number_at, with_number, element_at, put_back, with_elements, with_arrays, with_own, new_object, ended}
+use Rattle.nx_cobjects.specs.Values.{same_element, size_of}
+use Rattle.nx_cobjects.specs.Memory.{Memory, memory, object_in, object_at, number_at, with_number, element_at, is_of, has_elements, put_back, with_elements, with_arrays, with_own, new_object, ended}
+use Rattle.nx_cobjects.specs.Memory.{has_element as has_c_element}
 use Rattle.nx_slot.specs.declared.op.Width.TheVariants.{Word}
 use Rattle.nx_slot.specs.Objects.{no_object, object_of, has_element, element, with_element as with_slot_element, same_width, bytes_of}
 use Rattle.nx_slot.specs.Objects as slot
@@ -26,7 +27,7 @@ use Rattle.nx_lower.specs.Shown.{Counts, counts_of, statics_in, name_of, width_o
 use Rattle.nx_lower.specs.Laws.{object_for, LoadsAlike, WritesSame, StoresAlike, VariablesAlike, ArraysAlike, names_from, EndsAlike}
 use Rattle.nx_lower.proofs.Parts.{get_mapped, set_mapped, get_first, get_second, get_third, get_fourth, set_first, set_second, set_fourth}
 
--- An object that has a byte is one of its list.
+-- An object is one of its list.
 abbrev pub Known : Memory → Name → Type 0
 Known m (name.Array i) = i < length m.group.arrays
 Known m (name.Text i) = i < length m.group.texts
@@ -41,6 +42,23 @@ in_list : (os : List Object) (i : ℕ) → 1 ≤ length (object_in os i).bytes �
 in_list [] i h = absurd (omega arith)
 in_list (o ∷ os) zero h = omega arith
 in_list (o ∷ os) (suc i) h = let q = in_list os i h in omega (arith, q)
+
+-- It is there where it has elements, which are of its kind.
+same_kind : (w e : Element) → same_element w e ≡ true → e ≡ w
+same_kind element.Int element.Int h = refl
+same_kind element.Char element.Char h = refl
+same_kind element.Int element.Char h = absurd (false≢true h)
+same_kind element.Char element.Int h = absurd (false≢true h)
+
+of_list : (w : Element) (os : List Object) (i : ℕ) → is_of w (slice_get os i) ≡ true → (i < length os) × ((object_in os i).element ≡ w)
+of_list w [] i h = absurd (false≢true h)
+of_list w (o ∷ os) zero h = (omega arith, same_kind w o.element h)
+of_list w (o ∷ os) (suc i) h = let q = of_list w os i h in let g = q.0 in (omega (arith, g), q.1)
+
+pub has_kind : (m : Memory) (w : Element) (o : Name) → has_elements m w o ≡ true → Known m o × ((object_at m o).element ≡ w)
+has_kind m w (name.Array i) h = of_list w m.group.arrays i h
+has_kind m w (name.Text i) h = of_list w m.group.texts i h
+has_kind m w (name.Own i) h = of_list w m.own i h
 
 pub known : (m : Memory) (o : Name) → 1 ≤ length (object_at m o).bytes → Known m o
 known m (name.Array i) h = in_list m.group.arrays i h
@@ -93,20 +111,32 @@ unfolding with_slot_element
 stored_same fixed o element.Int at n = refl
 stored_same fixed o element.Char at n = refl
 
--- What a test of bounds says where it holds.
-pub record Within (w : Element) (bytes : List ℕ) (at : ℕ) : Type 0 where
-  pub test : nat_le (size_of w * (at + 1)) (length bytes) ≡ true
-  pub some : 1 ≤ length bytes
+-- What the test of an element says where it holds.
+pub record Within (w : Element) (o : Object) (at : ℕ) : Type 0 where
+  pub kind : o.element ≡ w
+  pub test : nat_le (size_of w * (at + 1)) (length o.bytes) ≡ true
+  pub some : 1 ≤ length o.bytes
 
 size_some : (w : Element) (at n : ℕ) → nat_le (size_of w * (at + 1)) n ≡ true → 1 ≤ n
 size_some element.Int at n h = grind (arith, nat_tests)
 size_some element.Char at n h = grind (arith, nat_tests)
 
+both : (w e : Element) (b : Bool) → (same_element w e && b) ≡ true → (e ≡ w) × (b ≡ true)
+both element.Int element.Int b h = (refl, h)
+both element.Char element.Char b h = (refl, h)
+both element.Int element.Char b h = absurd (false≢true h)
+both element.Char element.Int b h = absurd (false≢true h)
+
+within : (w : Element) (o : Object) (at : ℕ) → has_c_element w o at ≡ true → Within w o at
+within w o at h =
+    let q = both w o.element (nat_le (size_of w * (at + 1)) (length o.bytes)) h in
+    record { kind = q.0; test = q.1; some = size_some w at (length o.bytes) q.1 }
+
 value_or : Value → Result Value WrongKind → Value
 value_or x (Ok y) = y
 value_or x (Err k) = x
 
-ok_value : (x y : Value) → ◌≡◌ {A = Result Value WrongKind} (Ok x) (Ok y) → x ≡ y
+pub ok_value : (x y : Value) → ◌≡◌ {A = Result Value WrongKind} (Ok x) (Ok y) → x ≡ y
 unfolding value_or
 ok_value x y e = ap (value_or x) e
 
@@ -118,47 +148,47 @@ ok_memory : (x y : Memory) → ◌≡◌ {A = Result Memory WrongKind} (Ok x) (O
 unfolding memory_or
 ok_memory x y e = ap (memory_or x) e
 
-read_within : (w : Element) (bytes : List ℕ) (at : ℕ) (v : Value) → element_at w bytes at ≡ Ok v → (i : Within w bytes at) × (v ≡ value.Int (number_at w bytes at))
-read_within w bytes at v e = go (nat_le (size_of w * (at + 1)) (length bytes)) refl e
+read_within : (w : Element) (o : Object) (at : ℕ) (v : Value) → element_at w o at ≡ Ok v → (i : Within w o at) × (v ≡ value.Int (number_at w o.bytes at))
+read_within w o at v e = go (has_c_element w o at) refl e
   where
-    go : (b : Bool) → nat_le (size_of w * (at + 1)) (length bytes) ≡ b → ◌≡◌ {A = Result Value WrongKind} (if b then Ok (value.Int (number_at w bytes at)) else Err wrong.Bounds) (Ok v) → (i : Within w bytes at) × (v ≡ value.Int (number_at w bytes at))
-    go true q e = (record { test = q; some = size_some w at (length bytes) q }, sym (ok_value (value.Int (number_at w bytes at)) v e))
+    go : (b : Bool) → has_c_element w o at ≡ b → ◌≡◌ {A = Result Value WrongKind} (if b then Ok (value.Int (number_at w o.bytes at)) else Err wrong.Bounds) (Ok v) → (i : Within w o at) × (v ≡ value.Int (number_at w o.bytes at))
+    go true q e = (within w o at q, sym (ok_value (value.Int (number_at w o.bytes at)) v e))
     go false q e = absurd cc
 
 pub loads : LoadsAlike
-loads m w o at v e h =
-    let r = read_within w (object_at m o).bytes at v h in
+loads m w o at v h =
+    let r = read_within w (object_at m o) at v h in
     let k = known m o r.0.some in
     let s = shown_at m o k in
     record {
-      there = ap (λ x. has_element x (width_of w) at) s ∙ element_there (is_text o) (object_at m o) w at e r.0.test;
+      there = ap (λ x. has_element x (width_of w) at) s ∙ element_there (is_text o) (object_at m o) w at r.0.kind r.0.test;
       same = r.1 ∙ ap value.Int (sym (ap (λ x. element (width_of w) x at) s ∙ element_same (is_text o) (object_at m o) w at));
     }
 
 -- A store leads to a memory with one element changed.
 write_array : (m : Memory) (w : Element) (i at n : ℕ) (new : Memory) → with_arrays m (with_elements w m.group.arrays i at n) ≡ Ok new
-    → (k : Within w (object_in m.group.arrays i).bytes at) × (memory (record { scalars = m.group.scalars; arrays = slice_set m.group.arrays i (object (object_in m.group.arrays i).element (with_number w (object_in m.group.arrays i).bytes at n)); texts = m.group.texts }) m.own ≡ new)
-write_array m w i at n new e = go (nat_le (size_of w * (at + 1)) (length (object_in m.group.arrays i).bytes)) refl e
+    → (k : Within w (object_in m.group.arrays i) at) × (memory (record { scalars = m.group.scalars; arrays = slice_set m.group.arrays i (object (object_in m.group.arrays i).element (with_number w (object_in m.group.arrays i).bytes at n)); texts = m.group.texts }) m.own ≡ new)
+write_array m w i at n new e = go (has_c_element w (object_in m.group.arrays i) at) refl e
   where
-    go : (b : Bool) → nat_le (size_of w * (at + 1)) (length (object_in m.group.arrays i).bytes) ≡ b
+    go : (b : Bool) → has_c_element w (object_in m.group.arrays i) at ≡ b
         → ◌≡◌ {A = Result Memory WrongKind} (with_arrays m (put_back m.group.arrays i (if b then Ok (object (object_in m.group.arrays i).element (with_number w (object_in m.group.arrays i).bytes at n)) else Err wrong.Bounds))) (Ok new)
-        → (k : Within w (object_in m.group.arrays i).bytes at) × (memory (record { scalars = m.group.scalars; arrays = slice_set m.group.arrays i (object (object_in m.group.arrays i).element (with_number w (object_in m.group.arrays i).bytes at n)); texts = m.group.texts }) m.own ≡ new)
-    go true q e = (record { test = q; some = size_some w at (length (object_in m.group.arrays i).bytes) q }, ok_memory _ new e)
+        → (k : Within w (object_in m.group.arrays i) at) × (memory (record { scalars = m.group.scalars; arrays = slice_set m.group.arrays i (object (object_in m.group.arrays i).element (with_number w (object_in m.group.arrays i).bytes at n)); texts = m.group.texts }) m.own ≡ new)
+    go true q e = (within w (object_in m.group.arrays i) at q, ok_memory _ new e)
     go false q e = absurd cc
 
 write_own : (m : Memory) (w : Element) (i at n : ℕ) (new : Memory) → with_own m (with_elements w m.own i at n) ≡ Ok new
-    → (k : Within w (object_in m.own i).bytes at) × (memory m.group (slice_set m.own i (object (object_in m.own i).element (with_number w (object_in m.own i).bytes at n))) ≡ new)
-write_own m w i at n new e = go (nat_le (size_of w * (at + 1)) (length (object_in m.own i).bytes)) refl e
+    → (k : Within w (object_in m.own i) at) × (memory m.group (slice_set m.own i (object (object_in m.own i).element (with_number w (object_in m.own i).bytes at n))) ≡ new)
+write_own m w i at n new e = go (has_c_element w (object_in m.own i) at) refl e
   where
-    go : (b : Bool) → nat_le (size_of w * (at + 1)) (length (object_in m.own i).bytes) ≡ b
+    go : (b : Bool) → has_c_element w (object_in m.own i) at ≡ b
         → ◌≡◌ {A = Result Memory WrongKind} (with_own m (put_back m.own i (if b then Ok (object (object_in m.own i).element (with_number w (object_in m.own i).bytes at n)) else Err wrong.Bounds))) (Ok new)
-        → (k : Within w (object_in m.own i).bytes at) × (memory m.group (slice_set m.own i (object (object_in m.own i).element (with_number w (object_in m.own i).bytes at n))) ≡ new)
-    go true q e = (record { test = q; some = size_some w at (length (object_in m.own i).bytes) q }, ok_memory _ new e)
+        → (k : Within w (object_in m.own i) at) × (memory m.group (slice_set m.own i (object (object_in m.own i).element (with_number w (object_in m.own i).bytes at n))) ≡ new)
+    go true q e = (within w (object_in m.own i) at q, ok_memory _ new e)
     go false q e = absurd cc
 
 pub stores : StoresAlike
-stores m w (name.Text i) at n new e h = absurd cc
-stores m w (name.Array i) at n new e h =
+stores m w (name.Text i) at n new h = absurd cc
+stores m w (name.Array i) at n new h =
     let g = m.group in
     let s = map scalar_shown g.scalars in let a = map (object_shown false) g.arrays in let t = map (object_shown true) g.texts in let o = map (object_shown false) m.own in
     let r = write_array m w i at n new h in
@@ -168,7 +198,7 @@ stores m w (name.Array i) at n new e h =
     let z = shown_at m (name.Array i) k in
     subst (λ new. WritesSame m w (name.Array i) at n new) r.1
     (record {
-      there = ap (λ x. has_element x (width_of w) at) z ∙ element_there false x w at e r.0.test;
+      there = ap (λ x. has_element x (width_of w) at) z ∙ element_there false x w at r.0.kind r.0.test;
       free = ap (λ x. x.fixed) z;
       counts = ap (λ k. let c : Counts = record { scalars = length g.scalars; arrays = k; texts = length g.texts } in c) (length-set g.arrays i y);
       objects =
@@ -177,7 +207,7 @@ stores m w (name.Array i) at n new e h =
           ∙ set_second s a t o (length g.scalars) i (object_shown false y) (sym (length-map g.scalars scalar_shown)) (omega (arith, k, length-map g.arrays (object_shown false)))
           ∙ ap (λ a. (s ++ (a ++ t)) ++ o) (set_mapped (object_shown false) g.arrays i y);
     })
-stores m w (name.Own i) at n new e h =
+stores m w (name.Own i) at n new h =
     let g = m.group in
     let s = map scalar_shown g.scalars in let a = map (object_shown false) g.arrays in let t = map (object_shown true) g.texts in let o = map (object_shown false) m.own in
     let r = write_own m w i at n new h in
@@ -187,7 +217,7 @@ stores m w (name.Own i) at n new e h =
     let z = shown_at m (name.Own i) k in
     subst (λ new. WritesSame m w (name.Own i) at n new) r.1
     (record {
-      there = ap (λ x. has_element x (width_of w) at) z ∙ element_there false x w at e r.0.test;
+      there = ap (λ x. has_element x (width_of w) at) z ∙ element_there false x w at r.0.kind r.0.test;
       free = ap (λ x. x.fixed) z;
       counts = refl;
       objects =
@@ -206,9 +236,13 @@ word_bytes : (n : ℕ) → get_bytes (to_le 4 n) 0 4 ≡ to_le 4 n
 unfolding get_bytes to_le
 word_bytes n = refl
 
-word_read : (n : ℕ) → n < 2 ^ 32 → element Word (scalar_shown n) 0 ≡ n
+word_kept : (n : ℕ) → from_le (to_le 4 n) ≡ n % 2 ^ 32
+unfolding from_le to_le
+word_kept n = omega arith
+
+word_read : (n : ℕ) → element Word (scalar_shown n) 0 ≡ n % 2 ^ 32
 unfolding element
-word_read n h = ap from_le (word_bytes n) ∙ from_le-to_le_word n h
+word_read n = ap from_le (word_bytes n) ∙ word_kept n
 
 word_written : (old n : ℕ) → with_slot_element Word (scalar_shown old) 0 n ≡ scalar_shown n
 unfolding with_slot_element put_bytes to_le
@@ -229,7 +263,7 @@ variables m i n h =
     record {
       there = ap (λ x. has_element x Word 0) z ∙ word_there (slice_index g.scalars i);
       free = ap (λ x. x.fixed) z;
-      reads = λ l. ap (λ x. element Word x 0) z ∙ word_read (slice_index g.scalars i) l;
+      reads = ap (λ x. element Word x 0) z ∙ word_read (slice_index g.scalars i);
       writes =
           ap (λ x. slice_set (objects_of m) i (with_slot_element Word x 0 n)) z
           ∙ ap (slice_set (objects_of m) i) (word_written (slice_index g.scalars i) n)

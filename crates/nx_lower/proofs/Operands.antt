@@ -1,6 +1,6 @@
 -- Values of C and of slot code, and what operators make of them.
-use Rattle.std.proofs.Common.{◌≡◌, ℕ, zero, suc, ◌+◌, ◌%◌, ◌^◌, ◌<◌, true, Some, None, refl, ap, ◌∙◌, subst, arith}
-use Rattle.std.specs.Prelude.{slice_get, ◌==◌, not, if◌then◌else◌}
+use Rattle.std.proofs.Common.{◌≡◌, ℕ, zero, suc, ◌+◌, ◌%◌, ◌^◌, ◌<◌, Bool, true, false, Some, None, refl, ap, ◌∙◌, subst, arith}
+use Rattle.std.specs.Prelude.{slice_get, ◌==◌, not, if◌then◌else◌, Result, Ok, Err}
 use Rattle.nx_base.specs.Arithmetic.{alu_of, flag}
 use Rattle.nx_base.specs.declared.operations.AluOp.TheVariants as alu
 use Rattle.nx_checked.specs.declared.checked.Element.{Element}
@@ -9,8 +9,10 @@ use Rattle.nx_checked.specs.declared.checked.IntOperator.{IntOperator}
 use Rattle.nx_checked.specs.declared.checked.IntOperator.TheVariants as int
 use Rattle.nx_cobjects.specs.declared.value.Value.{Value}
 use Rattle.nx_cobjects.specs.declared.value.Value.TheVariants as value
-use Rattle.nx_cobjects.specs.Values.{int_in, moved, operated}
-use Rattle.nx_cobjects.specs.Memory.{Memory, object_at}
+use Rattle.nx_cobjects.specs.declared.value.WrongKind.{WrongKind}
+use Rattle.nx_cobjects.specs.declared.value.WrongKind.TheVariants as wrong
+use Rattle.nx_cobjects.specs.Values.{operated}
+use Rattle.nx_cobjects.specs.Memory.{Memory, object_at, has_elements, moved}
 use Rattle.nx_slot.specs.declared.op.Binary.TheVariants as binary_op
 use Rattle.nx_slot.specs.declared.op.Comparison.TheVariants as compare
 use Rattle.nx_slot.specs.declared.op.Unary.TheVariants as unary_op
@@ -19,20 +21,7 @@ use Rattle.nx_slot.specs.Objects as slot
 use Rattle.nx_lower.specs.Shown.{Counts, counts_of, name_of, shown, width_of, object_shown, objects_of}
 use Rattle.nx_lower.specs.Code.{binary_of}
 use Rattle.nx_lower.specs.Laws.{names_from}
-use Rattle.nx_lower.proofs.Objects.{Known, shown_at, is_text}
-
--- A value is a number; a pointer is to elements of this width, or to nothing.
-abbrev pub IsNumber : Value → Type 0
-IsNumber v = v ≡ value.Int (int_in v)
-
-abbrev pub Points : Memory → Element → Value → Type 0
-Points m w (value.Int n) = ⊥
-Points m w (value.Point o at) = Known m o × ((object_at m o).element ≡ w)
-Points m w (value.Forged n) = Unit {0}
-Points m w (value.Entry f) = ⊥
-
-pub number_shown : (c : Counts) (v : Value) → IsNumber v → shown c v ≡ slot.Int (int_in v)
-number_shown c v e = ap (shown c) e
+use Rattle.nx_lower.proofs.Objects.{has_kind, shown_at, is_text, ok_value}
 
 pub operated_same : (o : IntOperator) (a b : ℕ) → binary (binary_of o) a b ≡ operated o a b
 unfolding binary holds
@@ -78,16 +67,22 @@ widths_same element.Int = refl
 widths_same element.Char = refl
 
 -- A pointer moves alike.
-pub moved_same : (m : Memory) (c : Counts) (w : Element) (v : Value) (n : ℕ) → counts_of m.group ≡ c → Points m w v → slot.moved (objects_of m) (width_of w) (shown c v) n ≡ Some (shown c (moved w v n))
-moved_same m c w (value.Int k) n e h = absurd h
-moved_same m c w (value.Point o at) n e h =
-    let z = subst (λ c. object_of (objects_of m) (name_of c o) ≡ object_shown (is_text o) (object_at m o)) e (shown_at m o h.0) in
-    ap (λ x. if same_width x.width (width_of w) then Some (slot.Pointer (name_of c o) ((at + n) % 2 ^ 32)) else None) z
-    ∙ ap (λ x. if same_width (width_of x) (width_of w) then Some (slot.Pointer (name_of c o) ((at + n) % 2 ^ 32)) else None) h.1
-    ∙ ap (λ b. if b then Some (slot.Pointer (name_of c o) ((at + n) % 2 ^ 32)) else None) (widths_same w)
-moved_same m c element.Int (value.Forged k) n e h = refl
-moved_same m c element.Char (value.Forged k) n e h = refl
-moved_same m c w (value.Entry f) n e h = absurd h
+pub moved_same : (m : Memory) (c : Counts) (w : Element) (v x : Value) (n : ℕ) → counts_of m.group ≡ c → moved m w v n ≡ Ok x → slot.moved (objects_of m) (width_of w) (shown c v) n ≡ Some (shown c x)
+moved_same m c w (value.Int k) x n e h = absurd cc
+moved_same m c w (value.Entry f) x n e h = absurd cc
+moved_same m c element.Int (value.Forged k) x n e h = ap (λ v. Some (shown c v)) (ok_value _ x h)
+moved_same m c element.Char (value.Forged k) x n e h = ap (λ v. Some (shown c v)) (ok_value _ x h)
+moved_same m c w (value.Point o at) x n e h = go (has_elements m w o) refl h
+  where
+    go : (b : Bool) → has_elements m w o ≡ b → ◌≡◌ {A = Result Value WrongKind} (if b then Ok (value.Point o ((at + n) % 2 ^ 32)) else Err wrong.Bounds) (Ok x) → slot.moved (objects_of m) (width_of w) (slot.Pointer (name_of c o) at) n ≡ Some (shown c x)
+    go false q h = absurd cc
+    go true q h =
+        let k = has_kind m w o q in
+        let z = subst (λ c. object_of (objects_of m) (name_of c o) ≡ object_shown (is_text o) (object_at m o)) e (shown_at m o k.0) in
+        ap (λ x. if same_width x.width (width_of w) then Some (slot.Pointer (name_of c o) ((at + n) % 2 ^ 32)) else None) z
+        ∙ ap (λ x. if same_width (width_of x) (width_of w) then Some (slot.Pointer (name_of c o) ((at + n) % 2 ^ 32)) else None) k.1
+        ∙ ap (λ b. if b then Some (slot.Pointer (name_of c o) ((at + n) % 2 ^ 32)) else None) (widths_same w)
+        ∙ ap (λ v. Some (shown c v)) (ok_value _ x h)
 
 -- The names of arrays.
 pub names_get : (b k i : ℕ) → i < k → slice_get (names_from b k) i ≡ Some (b + i)

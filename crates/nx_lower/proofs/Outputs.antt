@@ -1,22 +1,21 @@
 -- Outputs of a reply are put into the same objects.
-use Rattle.std.proofs.Common.{◌≡◌, ℕ, ◌+◌, ◌*◌, ◌<◌, Bool, true, false, List, [], ◌∷◌, ◌++◌, length, map, refl, sym, ap, ◌∙◌, subst, arith}
-use Rattle.std.specs.Prelude.{slice_set, get_or, nat_le, not, ◌&&◌, if◌then◌else◌}
+use Rattle.std.proofs.Common.{◌≡◌, ℕ, ◌+◌, ◌*◌, Bool, true, false, List, ◌++◌, length, map, refl, sym, ap, ◌∙◌, arith}
+use Rattle.std.specs.Prelude.{slice_set, nat_le, ◌&&◌, if◌then◌else◌}
 use Rattle.std.proofs.lemmas.List.{length-map}
 use Rattle.nx_base.specs.ByteLists.{put_bytes}
 use Rattle.nx_checked.specs.declared.checked.Element.{Element}
 use Rattle.nx_checked.specs.declared.checked.Element.TheVariants as element
-use Rattle.nx_cobjects.specs.declared.value.Name.{Name}
 use Rattle.nx_cobjects.specs.declared.value.Name.TheVariants as name
 use Rattle.nx_cobjects.specs.Groups.{Object, object}
 use Rattle.nx_cobjects.specs.Values.{size_of}
-use Rattle.nx_cobjects.specs.Memory.{Memory, object_in, object_at}
+use Rattle.nx_cobjects.specs.Memory.{object_in, object_at}
 use Rattle.nx_cobjects.specs.Buffers.{with_bytes}
 use Rattle.nx_slot.specs.Objects.{object_of, no_object}
 use Rattle.nx_slot.specs.Objects as slot
 use Rattle.nx_slot.specs.Calls.{from_place}
 use Rattle.nx_slot.specs.Calls.{with_bytes as slot_bytes}
 use Rattle.nx_lower.specs.Shown.{counts_of, name_of, width_of, object_shown, scalar_shown, objects_of}
-use Rattle.nx_lower.specs.Laws.{object_for, OutputsAlike}
+use Rattle.nx_lower.specs.Laws.{OutputsAlike}
 use Rattle.nx_lower.proofs.Parts.{set_mapped, set_same, set_second, set_fourth}
 use Rattle.nx_lower.proofs.Objects.{shown_at}
 

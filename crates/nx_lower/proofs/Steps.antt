@@ -1,5 +1,5 @@
 -- What single operations of slot code lead to.
-use Rattle.std.proofs.Common.{◌≡◌, ℕ, suc, ◌+◌, ◌<◌, ◌≤◌, true, false, List, [], ◌∷◌, ◌++◌, length, Some, refl, sym, ap, ◌∙◌, subst, arith}
+use Rattle.std.proofs.Common.{◌≡◌, ℕ, suc, ◌+◌, ◌-◌, ◌<◌, ◌≤◌, true, false, List, [], ◌∷◌, ◌++◌, length, Some, refl, sym, ap, ◌∙◌, subst, arith}
 use Rattle.std.specs.Prelude.{slice_get, slice_set, if◌then◌else◌}
 use Rattle.std.proofs.lemmas.Bool.Decides.{nat_tests}
 use Rattle.nx_slot.specs.declared.op.Operand.{Operand}
@@ -82,7 +82,7 @@ module _ (p : Code) (f wants : ℕ) (names : List ℕ) (below : List SlotFrame) 
   abbrev pub at_place : ℕ → List Value → List Object → SlotState
   at_place at cells os = state (slot_frame f at wants names cells ∷ below) os
 
-  step_is : (at : ℕ) (cells : List Value) (os : List Object) (o : SlotOp) → slice_get (ops_in p f) at ≡ Some o
+  pub step_is : (at : ℕ) (cells : List Value) (os : List Object) (o : SlotOp) → slice_get (ops_in p f) at ≡ Some o
       → step p (at_place at cells os) ≡ act p below os (function_at p f) (slot_frame f at wants names cells) (cost_of (function_at p f) o) o
   step_is at cells os o h = ap (λ x. fetched p below os (function_at p f) (slot_frame f at wants names cells) x) h
 
@@ -136,6 +136,11 @@ module _ (p : Code) (f wants : ℕ) (names : List ℕ) (below : List SlotFrame) 
 
   pub skip : (at : ℕ) (cells : List Value) (os : List Object) (past : ℕ) → slice_get (ops_in p f) at ≡ Some (op.Skip past) → Leads p (at_place at cells os) (at_place (at + 1 + past) cells os) 2 1
   skip at cells os past h = leads_one p _ _ 2 (step_is at cells os (op.Skip past) h)
+
+  pub goes_back : (at to : ℕ) (cells : List Value) (os : List Object) (by : ℕ) → at ≡ to + by → slice_get (ops_in p f) at ≡ Some (op.Back by) → Leads p (at_place at cells os) (at_place to cells os) 2 1
+  goes_back at to cells os by e h =
+      let q : at - by ≡ to = omega (arith, e) in
+      leads_one p _ _ 2 (step_is at cells os (op.Back by) h ∙ ap (λ n. Goes (at_place n cells os) 2) q)
 
   pub names_static : (at : ℕ) (cells : List Value) (os : List Object) (i : ℕ) (o : StaticObject) → slice_get (ops_in p f) at ≡ Some (op.Static i o) → May cells i
       → Leads p (at_place at cells os) (at_place (at + 1) (put cells i (Pointer o.name 0)) os) 5 1

@@ -1,11 +1,14 @@
--- Checked expressions whose names there are, and whose calls have as many arguments as parameters.
-use Rattle.std.specs.Prelude.{◌≡◌, ℕ, ◌<◌, length, Some, slice_get}
+-- Checked programs whose names there are, and whose calls have as many arguments as parameters.
+use Rattle.std.specs.Prelude.{◌≡◌, ◌≢◌, ℕ, ◌+◌, ◌<◌, ◌≤◌, List, [], ◌∷◌, length, Option, Some, None, slice_get}
+use Rattle.nx_base.specs.Calls.{Rows}
 use Rattle.nx_checked.specs.declared.checked.Cell.{Cell}
 use Rattle.nx_checked.specs.declared.checked.Cell.TheVariants as cell
 use Rattle.nx_checked.specs.declared.checked.ArrayName.{ArrayName}
 use Rattle.nx_checked.specs.declared.checked.ArrayName.TheVariants as array
+use Rattle.nx_checked.specs.declared.checked.Scalar.{Scalar}
 use Rattle.nx_checked.specs.declared.checked.UsedCall.{UsedCall}
-use Rattle.nx_checked.specs.Trees.{Expr, Constant, Literal, Function, Read, Array, Load, AddressOf, Unary, Binary, And, Or, Conditional, Convert, Advance, AdvanceBy, Retreat, Assign, AssignElement, Compound, CompoundElement, Step, StepElement, Kernel, Call, Place, Index, Deref, Args, NoMore, More, count}
+use Rattle.nx_checked.specs.Trees.{Expr, Constant, Literal, Function, Read, Array, Load, AddressOf, Unary, Binary, And, Or, Conditional, Convert, Advance, AdvanceBy, Retreat, Assign, AssignElement, Compound, CompoundElement, Step, StepElement, Kernel, Call, Place, Index, Deref, Args, NoMore, More, count, Stmt, Empty, Run, Block, If, IfElse, While, Do, For, Break, Continue, Return, Stmts, Done, Then, Fun}
+use Rattle.nx_cobjects.specs.Buffers.{enters}
 use Rattle.nx_cmean.specs.Meaning.{fun_at}
 use Rattle.nx_lower.specs.Code.{Source}
 
@@ -59,3 +62,54 @@ abbrev mutual
   pub SoundArgs : Source → Stage → Args → Type 0
   SoundArgs s z NoMore = Unit {0}
   SoundArgs s z (More e xs) = SoundExpr s z e × SoundArgs s z xs
+
+abbrev pub SoundOption : Source → Stage → Option Expr → Type 0
+SoundOption s z None = Unit {0}
+SoundOption s z (Some e) = SoundExpr s z e
+
+abbrev mutual
+  pub SoundStmt : Source → Stage → Stmt → Type 0
+  SoundStmt s z Empty = Unit {0}
+  SoundStmt s z (Run e) = SoundExpr s z e
+  SoundStmt s z (Block ss) = SoundStmts s z ss
+  SoundStmt s z (If c a) = SoundExpr s z c × SoundStmt s z a
+  SoundStmt s z (IfElse c a b) = SoundExpr s z c × SoundStmt s z a × SoundStmt s z b
+  SoundStmt s z (While c a) = SoundExpr s z c × SoundStmt s z a
+  SoundStmt s z (Do a c) = SoundExpr s z c × SoundStmt s z a
+  SoundStmt s z (For a c t b) = SoundOption s z a × SoundOption s z c × SoundOption s z t × SoundStmt s z b
+  SoundStmt s z Break = Unit {0}
+  SoundStmt s z Continue = Unit {0}
+  SoundStmt s z (Return e) = SoundOption s z e
+
+  pub SoundStmts : Source → Stage → Stmts → Type 0
+  SoundStmts s z Done = Unit {0}
+  SoundStmts s z (Then a ss) = SoundStmt s z a × SoundStmts s z ss
+
+abbrev pub SoundAll : Source → Stage → List Expr → Type 0
+SoundAll s z [] = Unit {0}
+SoundAll s z (e ∷ es) = SoundExpr s z e × SoundAll s z es
+
+-- Where a function's variables have started and its arrays are made.
+abbrev pub whole : Fun → Stage
+whole g = record { cells = length g.params + length g.locals; made = length g.arrays }
+
+-- What a declaration gives is given to a local.
+abbrev pub HasLocals : List Scalar → List Expr → Type 0
+HasLocals [] (e ∷ es) = ⊥
+HasLocals ts es = Unit {0}
+
+pub record SoundFun (s : Source) (g : Fun) : Type 0 where
+  pub few : length g.params ≤ 6
+  pub locals : HasLocals g.locals g.initials
+  pub initials : SoundAll s (whole g) g.initials
+  pub body : SoundStmts s (whole g) g.body
+
+-- The rows of the call table are those that a program names, with at most six parameters.
+pub record SoundCall (rows : Rows) (c : UsedCall) : Type 0 where
+  pub row : rows c.number ≡ record { kinds = c.kinds; enters = enters c }
+  pub number : c.number ≢ 0
+  pub few : length c.kinds ≤ 6
+
+pub record SoundProgram (s : Source) (rows : Rows) : Type 0 where
+  pub functions : (f : ℕ) → f < length s.program.functions → SoundFun s (fun_at s.program f)
+  pub calls : (k : ℕ) (c : UsedCall) → slice_get s.program.calls k ≡ Some c → SoundCall rows c

@@ -1,4 +1,4 @@
-ghost use Rattle.nx_lower.specs.Laws.{LoadsAlike, StoresAlike, VariablesAlike, ArraysAlike, EndsAlike, OutputsAlike};
+ghost use Rattle.nx_lower.specs.Laws.{LoadsAlike, StoresAlike, VariablesAlike, ArraysAlike, EndsAlike, OutputsAlike, CallsAlike};
 
 /// A law: where C reads an element, slot code reads the same number, and where C stores one, slot code stores it, and
 /// both have the same objects after it.
@@ -21,4 +21,9 @@ pub fn arrays_begin_and_end_alike()
 /// A law: the outputs of a reply are put into the same objects. Texts stay as they are.
 pub fn outputs_are_put_alike()
     ensures { OutputsAlike }
+{}
+
+/// A law: a call of the kernel has the same words and bytes, and its outputs are put at the same pointers.
+pub fn calls_have_the_same_words_and_bytes()
+    ensures { CallsAlike }
 {}

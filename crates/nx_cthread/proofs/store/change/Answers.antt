@@ -12,6 +12,6 @@ returns-in_default c =
     let i = c.args.item in
     let n = c.in_default in
     let kind : is_read (item_of i) ≡ true = read_kind i n.not-Write n.not-Raise n.not-Bump n.not-Lay n.not-Lift n.not-Shift n.not-Make in
-    let same : c.deref.result.now ≡ c.args.own.now.items = c.deref.ensures.value in
-    let h : IfOk c.evaluate.result (λ r. unless r (frame_of c.evaluate.new.frame) ≡ evaluated (memory c.args.group.now c.deref.result.now) (frame_of c.args.frame.now) (item_of i)) = c.evaluate.ensures in
+    let same : c.deref-in_default.result.now ≡ c.args.own.now.items = c.deref-in_default.ensures.value in
+    let h : IfOk c.evaluate.result (λ r. unless r (frame_of c.evaluate.new.frame) ≡ evaluated (memory c.args.group.now c.deref-in_default.result.now) (frame_of c.args.frame.now) (item_of i)) = c.evaluate.ensures in
     read c.evaluate.result (memory c.args.group.now c.args.own.now.items) (frame_of c.args.frame.now) (frame_of c.evaluate.new.frame) (item_of i) kind (subst (λ (own : List Object). IfOk c.evaluate.result (λ r. unless r (frame_of c.evaluate.new.frame) ≡ evaluated (memory c.args.group.now own) (frame_of c.args.frame.now) (item_of i))) same h)
