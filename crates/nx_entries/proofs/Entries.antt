@@ -1,6 +1,6 @@
 -- Entry and return.
 use Rattle.std.proofs.Common.{◌≡◌, ◌≢◌, ℕ, ◌+◌, ◌-◌, ◌*◌, ◌<◌, ◌≤◌, inl, inr, true, false, List, [], ◌∷◌, ◌++◌, length, refl, sym, ap, ◌∙◌, subst, arith, ⊎_elim, length-append}
-use Rattle.std.specs.Prelude.{pos}
+use Rattle.std.specs.Prelude.{pos, nat_le, ◌==◌}
 use Rattle.std.proofs.lemmas.Bool.Decides.{nat_tests}
 use Rattle.nx_base.specs.declared.regs.Regs.{Regs}
 use Rattle.nx_base.specs.declared.operations.AluOp.TheVariants as alu
@@ -14,7 +14,8 @@ use Rattle.nx_slot.specs.declared.op.Operand.{Operand}
 use Rattle.nx_slot.specs.declared.op.Operand.TheVariants.{Cell, Number}
 use Rattle.nx_slot.specs.declared.program.SlotFunction.{SlotFunction}
 use Rattle.nx_codegen.specs.Frames.{words_end}
-use Rattle.nx_codegen.specs.Moves.{addi, operand_code}
+use Rattle.nx_codegen.specs.Addresses.{upper}
+use Rattle.nx_codegen.specs.Moves.{addi, number_code, operand_code}
 use Rattle.nx_codegen.specs.Calling.{open_code, close_code, test_code, parameters_code, enter_code, leave_code}
 use Rattle.nx_codegen.specs.Code.{give_code}
 use Rattle.nx_shown.specs.Bytes.{Bytes, put, number_at, with_number}
@@ -25,7 +26,7 @@ use Rattle.nx_shown.proofs.Steps.{on, instructions}
 use Rattle.nx_pieces.specs.Parts.{IsCode, Sets}
 use Rattle.nx_pieces.specs.Cells.{Open}
 use Rattle.nx_pieces.proofs.Parts.{first, rest, below, front, back, plus_up, add_next, copy_next, number_sets}
-use Rattle.nx_pieces.proofs.Cells.{words_fit, may_write, frame_fits, word_is}
+use Rattle.nx_pieces.proofs.Cells.{by_test, words_fit, may_write, frame_fits, word_is}
 use Rattle.nx_pieces.proofs.Writes.{into_sets}
 use Rattle.nx_operations.specs.Laws.{operand_word, IsShown}
 use Rattle.nx_operations.proofs.Operators.{two_next}
@@ -96,6 +97,10 @@ behind_code g = Store 4 2 1 (pos 0) ∷ parameters_code g g.params
 in_parts : (g : SlotFunction) → enter_code g ≡ front_code g ++ (test_code ++ behind_code g)
 unfolding enter_code
 in_parts g = refl
+
+open_few : (n : ℕ) → length (open_code n) ≤ 3
+unfolding open_code number_code
+open_few n = by_test (nat_le n 2048) (λ q. rw q (omega arith)) (λ q. rw q (by_test (upper n == 0) (λ p. rw p (omega arith)) (λ p. rw p (omega arith))))
 
 record Fronted (e : Place) (g : SlotFunction) (r : Regs) (v : View) (pc : ℕ) (t : ℕ → ℕ) (b : Bytes) : Type 0 where
   new : ℕ → ℕ
@@ -180,20 +185,18 @@ tells e g r v pc t b p one h top short low k s0 a =
     let a3 = add_next e a2.regs a2.view (at + 4 + 4) u2 b 10 0 0 (pos 0) p (first e (at + 4 + 4) i3 (Ecall ∷ []) s5) ten_written (ap (λ n. plus n (pos 0)) a2.at.zero ∙ plus_up 0 0 (omega arith)) a2.at in
     let u3 = put u2 10 0 in
     let a4 = (instructions e a3.regs a3.view (at + 4 + 4 + 4) u3 b p a3.at).call s6.0 (below e (at + 4 + 4 + 4) Ecall [] s6) in
-    let few = m.few in
+    let few = m.few in let three = open_few g.frame in
     let end = at + 4 + 4 + 4 + 4 in
     let c1 = reach e 1 1 a2.regs a2.view (at + 4 + 4 + 4) end u3 u3 b b a3 a4 in
     let c2 = reach e 1 (1 + 1) a1.regs a1.view (at + 4 + 4) end u2 u3 b b a2 c1 in
     let c3 = reach e 1 (1 + (1 + 1)) m.next.regs m.next.view (at + 4) end u u3 b b a1 c2 in
     let c4 = reach e m.count (1 + (1 + (1 + 1))) r v at end u u3 b b m.next c3 in
-    let l = length-append x y in let tl = test_length (behind_code g) in
-    let whole : length (enter_code g) ≡ length (x ++ y) = ap length (in_parts g) in
     record {
       new = u3;
       behind = end;
       count = m.count + (1 + (1 + (1 + 1)));
       reaches = c4;
-      few = omega (arith, few, l, tl, whole);
+      few = omega (arith, few, three);
       number = put_same u2 10 0 10 refl;
       need_is = put_other u2 10 0 11 (λ q. omega (arith, q)) ∙ put_same u 11 need 11 refl;
     }

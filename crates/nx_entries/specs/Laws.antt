@@ -24,7 +24,7 @@ pub record Entered (e : Place) (g : SlotFunction) (sp : ℕ) (r : Regs) (v : Vie
   pub bytes : Bytes
   pub count : ℕ
   pub next : Next e count r v (pc + 4 * length (enter_code g)) new bytes
-  pub few : count ≤ length (enter_code g)
+  pub few : count + 3 ≤ length (enter_code g)
   pub some : 1 ≤ count
   pub pointer : new 2 ≡ sp
   pub top : new 3 ≡ e.top
@@ -42,7 +42,7 @@ pub record Told (e : Place) (g : SlotFunction) (need : ℕ) (r : Regs) (v : View
   pub behind : ℕ
   pub count : ℕ
   pub reaches : Reaches e count r v behind new b
-  pub few : count ≤ length (enter_code g)
+  pub few : count ≤ 9
   pub number : new 10 ≡ 0
   pub need_is : new 11 ≡ need
 

@@ -74,6 +74,7 @@ module _ (s : Source) (p : Code) (f back exit from arrays made wants : ℕ) (nam
     pub leads : Leads p start (here place cells ch.memory) cost turns
     pub moves_on : turns ≡ 0 → weight ch.frame.todo < room
     pub same : counts_of ch.memory.group ≡ counts s
+    pub called : ch.frame ≡ c_frame ch.frame.cells ch.frame.values ch.frame.todo
     pub alike : Tops (counts s) top ch.frame.cells ch.frame.values cells
     pub lies : Lies s p f back exit ch.frame.todo place (stage_of ch.frame.cells) (length ch.frame.values) top owed
     pub paid : cost + owed ≤ o + budget
@@ -99,6 +100,7 @@ module _ (s : Source) (p : Code) (f back exit from arrays made wants : ℕ) (nam
     turns = 1;
     leads = l;
     moves_on = λ z. absurd (omega (arith, z));
+    called = refl;
     same = same;
     alike = alike_push (counts s) locals vs cells v a;
     lies = lies;
@@ -118,6 +120,7 @@ module _ (s : Source) (p : Code) (f back exit from arrays made wants : ℕ) (nam
     turns = turns;
     leads = l;
     moves_on = some;
+    called = refl;
     same = same;
     alike = a;
     lies = lies;
@@ -152,6 +155,7 @@ module _ (s : Source) (p : Code) (f back exit from arrays made wants : ℕ) (nam
         turns = 0;
         leads = leads_here p _;
         moves_on = λ z. omega arith;
+        called = refl;
         same = same;
         alike = (refl, a);
         lies = h;
@@ -210,6 +214,7 @@ module _ (s : Source) (p : Code) (f back exit from arrays made wants : ℕ) (nam
         owed = o + 16;
         turns = turns + 1;
         moves_on = λ z. absurd (omega (arith, z));
+        called = refl;
         leads = leads_on p start (here pc cells m) (here (pc + 1) (put cells i (shown (counts s) x)) m) cost 7 turns 1 leads (subst (λ (y : Value). Leads p (here pc cells m) (here (pc + 1) (put cells i (shown (counts s) y)) m) 7 1) (sym is) one);
         same = same;
         alike = alike_push (counts s) locals vs cells x a;

@@ -1,7 +1,7 @@
 -- Slot code follows a call of the kernel.
 use Rattle.std.proofs.Common.{◌≡◌, ℕ, suc, ◌+◌, ◌<◌, ◌≤◌, List, [], ◌∷◌, length, map, Some, ap, ◌∙◌, subst, arith}
 use Rattle.std.specs.Prelude.{slice_get, take}
-use Rattle.nx_base.specs.Calls.{Row}
+use Rattle.nx_base.specs.Calls.{Call, Row}
 use Rattle.nx_checked.specs.declared.checked.UsedCall.{UsedCall}
 use Rattle.nx_cobjects.specs.declared.value.Value.{Value}
 use Rattle.nx_cobjects.specs.Memory.{Memory}
@@ -13,7 +13,7 @@ use Rattle.nx_slot.specs.Objects as slot
 use Rattle.nx_slot.specs.Calls.{call_inputs}
 use Rattle.nx_slot.specs.Calls.{words_of as slot_words, outputs_of as slot_pointers}
 use Rattle.nx_slot.specs.Meaning.{Code, SlotFrame, state, Requests, function_at, cells_from, step}
-use Rattle.nx_lower.specs.Shown.{counts_of, shown, objects_of}
+use Rattle.nx_lower.specs.Shown.{Counts, counts_of, shown, objects_of}
 use Rattle.nx_lower.specs.Code.{Source, counts, call_number, number_of}
 use Rattle.nx_lower.specs.Laws.{row_of}
 use Rattle.nx_lower.specs.Sound.{Stage, IsCall, SoundCall}
@@ -22,6 +22,7 @@ use Rattle.nx_lower.proofs.Steps.{ops_in, limit, slot_frame, at_place}
 use Rattle.nx_lower.proofs.Lies.{Body, item_lies, Lies}
 use Rattle.nx_lower.proofs.Acts.{plain_alike}
 use Rattle.nx_lower.proofs.Handing.{popped, row_alone, alike_take, may_is, asks}
+use Rattle.nx_lower.proofs.Telling.{CanTell, can_tell}
 use Rattle.nx_lower.proofs.Inputs.{words_same, pointers_same, inputs_same}
 
 module _ (s : Source) (p : Code) (f back exit made wants : ℕ) (names : List ℕ) (below : List SlotFrame) where
@@ -35,6 +36,7 @@ module _ (s : Source) (p : Code) (f back exit made wants : ℕ) (names : List �
     pub makes : (inputs : List (List ℕ)) → inputs_of m used args ≡ Some inputs
         → step p (at_place p f wants names below pc cells (objects_of m))
         ≡ Requests (record { number = used.number; words = words_of args; inputs = inputs }) (map (shown (counts s)) (outputs_of used.kinds args)) (state (slot_frame f (pc + 1) (length locals + length rest) names (take (length locals + length rest) cells) ∷ below) (objects_of m)) 20
+    pub ready : (inputs : List (List ℕ)) → inputs_of m used args ≡ Some inputs → CanTell (counts s) (length m.own) p.rows (record { number = used.number; words = words_of args; inputs = inputs }) (outputs_of used.kinds args)
     pub alike : AreAlike (counts s) locals rest (take (length locals + length rest) cells)
     pub lies : Lies s p f back exit k (pc + 1) (record { cells = length locals; made = made }) (suc (length rest)) Plain (o + 16)
 
@@ -69,6 +71,9 @@ module _ (s : Source) (p : Code) (f back exit made wants : ℕ) (names : List �
             ∙ ap (λ (r : Row). Requests (record { number = used.number; words = slot_words xs; inputs = inputs }) (slot_pointers r.kinds xs) next 20) t.row
             ∙ ap (λ (w : List ℕ). Requests (record { number = used.number; words = w; inputs = inputs }) (slot_pointers used.kinds xs) next 20) (words_same (counts s) q.args)
             ∙ ap (λ (l : List slot.Value). Requests (record { number = used.number; words = words_of q.args; inputs = inputs }) l next 20) (pointers_same (counts s) used.kinds q.args);
+        ready = λ inputs is.
+            let call : Call = record { number = used.number; words = words_of q.args; inputs = inputs } in
+            subst (λ (c : Counts). CanTell c (length m.own) p.rows call (outputs_of used.kinds q.args)) same (can_tell p.rows m used q.args inputs t (omega (arith, count, many)) is);
         alike = alike_take (counts s) locals q.rest cells q.alike;
         lies = g.2.1;
       }

@@ -73,6 +73,7 @@ module _ (s : Source) (p : Code) (f back exit from arrays made wants : ℕ) (nam
     turns = turns;
     leads = l;
     moves_on = some;
+    called = refl;
     same = same;
     alike = a;
     lies = lies;

@@ -50,12 +50,12 @@ function_is s rows stack f h = get_mapped (lower_fun s) s.program.functions f no
 
 module _ (s : Source) (p : Code) (f back exit : ℕ) where
   -- What lies here is no start.
-  pub entered : (k : List Item) (pc : ℕ) (z : Stage) (o : ℕ) → Lies s p f back exit k pc z 0 Plain o → EntryLies s p f back exit k pc z o
-  entered [] pc z o l = absurd l
-  entered (Start t ∷ k) pc z o l = absurd l.5
-  entered (Gap n ∷ k) pc z o l = absurd l.5
-  entered (Make a ∷ k) pc z o l = absurd l.5
-  entered (i ∷ k) pc z o l = l
+  pub entered : (k : List Item) (pc : ℕ) (z : Stage) (o : ℕ) → (function_at p f).locals ≤ z.cells → Lies s p f back exit k pc z 0 Plain o → EntryLies s p f back exit k pc z o
+  entered [] pc z o h l = absurd l
+  entered (Start t ∷ k) pc z o h l = absurd l.5
+  entered (Gap n ∷ k) pc z o h l = absurd l.5
+  entered (Make a ∷ k) pc z o h l = absurd l.5
+  entered (i ∷ k) pc z o h l = (h, l)
 
   initials_lie : (es : List Expr) (k : List Item) (pc : ℕ) (z : Stage) (o : ℕ) → HasAt (ops_in p f) pc (initials_code s z.cells es) → SoundAll s z es → z.cells + all_temps es ≤ limit p f → Lies s p f back exit k (pc + length (initials_code s z.cells es)) z 0 Plain o → Lies s p f back exit (initials_then es k) pc z 0 Plain o
   initials_lie [] k pc z o has sound fits l = let e : pc + 0 ≡ pc = omega arith in lies_at s p f back exit k (pc + 0) pc z 0 Plain o e l
@@ -67,7 +67,7 @@ module _ (s : Source) (p : Code) (f back exit : ℕ) where
       (up s p f back exit (initials_then es k) (pc + length cx) z o (o + 16) (omega arith)
       (initials_lie es k (pc + length cx) z o (has_back (ops_in p f) pc cx ce has) sound.1 (omega (arith, fits)) (lies_at s p f back exit k _ _ z 0 Plain o e l))))
 
-  gaps_lie : (n : ℕ) (k : List Item) (pc : ℕ) (z : Stage) (o : ℕ) → EntryLies s p f back exit k pc z (o + 3 * n) → EntryLies s p f back exit (gaps_then n k) pc z o
+  pub gaps_lie : (n : ℕ) (k : List Item) (pc : ℕ) (z : Stage) (o : ℕ) → EntryLies s p f back exit k pc z (o + 3 * n) → EntryLies s p f back exit (gaps_then n k) pc z o
   gaps_lie zero k pc z o l = let e : o + 3 * 0 ≡ o = omega arith in subst (λ o. EntryLies s p f back exit k pc z o) e l
   gaps_lie (suc n) k pc z o l = l
 
@@ -114,6 +114,7 @@ opens s p f g is sound =
     let last = op.Give (operand.Number 0) in
     let has = subst (λ ops. HasAt ops 0 (cs ++ (cm ++ (ci ++ (cb ++ last ∷ []))))) (sym (ap (λ x. x.ops) is)) (has_all (fun_code s g)) in
     let room : limit p f ≡ n + max (all_temps g.initials) (stmts_temps g.body) = ap (λ x. x.locals + x.temporaries) is in
+    let all : (function_at p f).locals ≡ n = ap (λ x. x.locals) is in
     let many : (function_at p f).arrays ≡ map array_of g.arrays = ap (λ x. x.arrays) is in
     let full : length g.arrays ≡ length (function_at p f).arrays = sym (length-map g.arrays array_of) ∙ ap length (sym many) in
     let a = 0 + length cs in let b = a + length cm in let c = b + length ci in let end = c + length cb in
@@ -135,6 +136,6 @@ opens s p f g is sound =
       lies =
           starts_lie s p f end end g.locals (arrays_then g.arrays (initials_then g.initials (rest_then g.body (Fall ∷ [])))) 0 (length g.params) 0 0 (has_front (ops_in p f) 0 cs _ has) (omega (arith, room))
           (arrays_lie s p f end end g.arrays (initials_then g.initials (rest_then g.body (Fall ∷ []))) a n 0 0 (has_front (ops_in p f) a cm _ h1) (subst (λ l. ArraysAt l 0 g.arrays) (sym many) (arrays_all g.arrays))
-          (entered s p f end end (initials_then g.initials (rest_then g.body (Fall ∷ []))) b (record { cells = n; made = 0 + length g.arrays }) 0
+          (entered s p f end end (initials_then g.initials (rest_then g.body (Fall ∷ []))) b (record { cells = n; made = 0 + length g.arrays }) 0 (omega (arith, all))
           (let e : length g.arrays ≡ 0 + length g.arrays = omega arith in subst (λ m. Lies s p f end end (initials_then g.initials (rest_then g.body (Fall ∷ []))) b (record { cells = n; made = m }) 0 Plain 0) e first)));
     }

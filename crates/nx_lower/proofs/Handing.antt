@@ -25,7 +25,7 @@ some_is : (x y : slot.Value) → Some x ≡ Some y → x ≡ y
 unfolding some_or
 some_is x y e = ap (some_or x) e
 
-get_value : (xs : List slot.Value) (i : ℕ) (x : slot.Value) → slice_get xs i ≡ Some x → value_at xs i ≡ x
+pub get_value : (xs : List slot.Value) (i : ℕ) (x : slot.Value) → slice_get xs i ≡ Some x → value_at xs i ≡ x
 get_value [] i x h = absurd cc
 get_value (y ∷ xs) zero x h = some_is y x h
 get_value (y ∷ xs) (suc i) x h = get_value xs i x h

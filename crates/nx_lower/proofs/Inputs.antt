@@ -13,7 +13,6 @@ use Rattle.nx_cobjects.specs.declared.value.Name.{Name}
 use Rattle.nx_cobjects.specs.declared.value.Name.TheVariants as name
 use Rattle.nx_cobjects.specs.declared.value.Value.{Value}
 use Rattle.nx_cobjects.specs.declared.value.Value.TheVariants as value
-use Rattle.nx_cobjects.specs.Groups.{Object}
 use Rattle.nx_cobjects.specs.Values.{size_of, word_in}
 use Rattle.nx_cobjects.specs.Memory.{Memory, object_at, value_in}
 use Rattle.nx_cobjects.specs.Buffers.{enters, part_of, buffer, text_length, text, with_input, where_there, room, input_after, and_then, inputs_after, inputs_by, outputs_of, words_of}
@@ -115,17 +114,17 @@ record Same (os : List slot.Object) (written : Bool) (x : slot.Value) (n : ℕ) 
   lies : lies_in os written x n ≡ true
   same : buffer_of os x (min n most_moved) ≡ bytes
 
-is_more : (n : ℕ) → (suc n == 0) ≡ false
+pub is_more : (n : ℕ) → (suc n == 0) ≡ false
 is_more n = grind (arith, nat_tests)
 
-no_room : (bytes : List ℕ) → ◌≡◌ {A = Option (List ℕ)} None (Some bytes) → ⊥
+pub no_room : (bytes : List ℕ) → ◌≡◌ {A = Option (List ℕ)} None (Some bytes) → ⊥
 no_room bytes e = absurd cc
 
 or_true : (b : Bool) → (b || true) ≡ true
 or_true true = refl
 or_true false = refl
 
-within_some : (a n l : ℕ) → nat_le (a + suc n) l ≡ true → 1 ≤ l
+pub within_some : (a n l : ℕ) → nat_le (a + suc n) l ≡ true → 1 ≤ l
 within_some a n l h = grind (arith, nat_tests, h)
 
 module _ (m : Memory) (c : Counts) (e : counts_of m.group ≡ c) where
@@ -207,7 +206,7 @@ module _ (m : Memory) (c : Counts) (e : counts_of m.group ≡ c) where
   nothing [] = refl
   nothing (x ∷ l) = ap (λ r. x ∷ r) (nothing l)
 
-  there_is : (done new : List (List ℕ)) (r : Option (List ℕ)) → where_there done r ≡ Some new → (bytes : List ℕ) × (r ≡ Some bytes) × (new ≡ done ++ [])
+  pub there_is : (done new : List (List ℕ)) (r : Option (List ℕ)) → where_there done r ≡ Some new → (bytes : List ℕ) × (r ≡ Some bytes) × (new ≡ done ++ [])
   there_is done new None h = absurd cc
   there_is done new (Some bytes) h = (bytes, refl, sym (some_is done new h) ∙ nothing done)
 
@@ -251,7 +250,7 @@ module _ (m : Memory) (c : Counts) (e : counts_of m.group ≡ c) where
     slot_is : slot_inputs (objects_of m) kinds (map (shown c) vs) ≡ Some inputs
     new_is : new ≡ done ++ inputs
 
-  after_is : (r : Option (List (List ℕ))) (go : List (List ℕ) → Option (List (List ℕ))) (new : List (List ℕ)) → and_then r go ≡ Some new → (mid : List (List ℕ)) × (r ≡ Some mid) × (go mid ≡ Some new)
+  pub after_is : (r : Option (List (List ℕ))) (go : List (List ℕ) → Option (List (List ℕ))) (new : List (List ℕ)) → and_then r go ≡ Some new → (mid : List (List ℕ)) × (r ≡ Some mid) × (go mid ≡ Some new)
   after_is None go new h = absurd cc
   after_is (Some mid) go new h = (mid, refl, h)
 

@@ -52,3 +52,10 @@ module _ (s : Source) (p : Code) (f back exit from arrays made wants : ℕ) (nam
       let read = subst (λ (i : ℕ). slice_get cells i ≡ Some (slot.Int n)) e a.temps.0 in
       gives p f wants names [] pc cells (objects_of m) (operand.Cell (length locals)) (slot.Int n) l.0 read
       ∙ ap (λ (os : List slot.Object). Finishes n os 20) (gone m same is (l.1 ∙ sym all))
+
+  pub fall_end_does : (m : Memory) (locals : List Value) (k : List Item) (cells : List slot.Value) (pc o : ℕ) → counts_of m.group ≡ counts s → names ≡ names_from (statics_in (counts s) + from) made → arrays ≡ length (function_at p f).arrays
+      → item_lies s p f back exit Fall (Body k) (λ back exit pc z d top o. Lies s p f back exit k pc z d top o) pc (record { cells = length locals; made = made }) 0 Plain o
+      → step p (at_place p f wants names [] pc cells (objects_of m)) ≡ Finishes 0 (objects_of (memory m.group (end_arrays m.own from arrays))) 20
+  fall_end_does m locals k cells pc o same is all l =
+      gives p f wants names [] pc cells (objects_of m) (operand.Number 0) (slot.Int 0) l.0 refl
+      ∙ ap (λ (os : List slot.Object). Finishes 0 os 20) (gone m same is (l.1 ∙ sym all))

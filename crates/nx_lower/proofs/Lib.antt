@@ -17,7 +17,21 @@ mod Statements
 mod Entry
 mod Inputs
 mod Handing
+mod Telling
 mod Running
 mod Following
 mod Asking
 mod Leaving
+mod Entering
+mod Starting
+mod Sizes
+mod Answering
+mod Turning
+mod Settling
+mod Calling
+mod Stepped
+mod Advancing
+mod Reaching
+mod Moving
+mod Keeping
+pub mod Kept

@@ -230,7 +230,7 @@ module _ (s : Source) (p : Code) where
   item_lies f back exit (Ask k c) ready next pc z d top o =
       plain top (pops_many c d (λ e. pushed f pc (op.Ask (number_of s k) (z.cells + e) c) (z.cells + e) (IsCall s k c × next back exit (pc + 1) z (suc e) Plain (o + 16))))
   item_lies f back exit (Enter g c) ready next pc z d top o = plain top (pops_many c d (λ e. let code = arguments_code (fun_at s.program g).params (z.cells + e) ++ op.Go g (z.cells + e) c ∷ [] in
-      (r : ℕ) × (r + 7 * c ≤ o) × stands_here f pc code (z.cells + e) ((g < length s.program.functions) × (c ≡ length (fun_at s.program g).params) × next back exit (pc + length code) z (suc e) Plain r)))
+      (r : ℕ) × (r + 7 * c ≤ o) × stands_here f pc code (z.cells + e) ((g < length s.program.functions) × (c ≡ length (fun_at s.program g).params) × (z.cells + e + c ≤ limit p f) × next back exit (pc + length code) z (suc e) Plain r)))
   item_lies f back exit Called ready next pc z d top o = plain top (next back exit pc z d Plain (o + 16))
   item_lies f back exit Forget ready next pc z d top o = plain top (pops d (λ e. next back exit pc z e Plain o))
   item_lies f back exit (Exec st) ready next pc z d top o = plain top (none d ((on : ℕ) × (out : ℕ) × StmtLies f back exit (stmt_code s z.cells on out st) (SoundStmt s z st) (stmt_temps st) ready next pc z on out o))
@@ -298,4 +298,4 @@ module _ (s : Source) (p : Code) where
   EntryLies f back exit (Gap n ∷ k) pc z o = EntryLies f back exit k pc z (o + 3 * suc n)
   EntryLies f back exit (Make a ∷ k) pc z o =
       (r : ℕ) × (r + 3 * (steps_of a - 1) ≤ o) × (slice_get (ops_in p f) pc ≡ Some (op.Make z.made)) × (slice_get (function_at p f).arrays z.made ≡ Some (array_of a)) × EntryLies f back exit k (pc + 1) (record { cells = z.cells; made = suc z.made }) r
-  EntryLies f back exit (i ∷ k) pc z o = Lies f back exit (i ∷ k) pc z 0 Plain o
+  EntryLies f back exit (i ∷ k) pc z o = ((function_at p f).locals ≤ z.cells) × Lies f back exit (i ∷ k) pc z 0 Plain o

@@ -271,7 +271,7 @@ variables m i n h =
           ∙ ap (λ s. (s ++ (a ++ t)) ++ o) (set_mapped scalar_shown g.scalars i n);
     }
 
-shapes_same : (s : Shape) → s.count * size_of s.element ≡ array_bytes_of s
+pub shapes_same : (s : Shape) → s.count * size_of s.element ≡ array_bytes_of s
 shapes_same s = ap (λ n. s.count * n) (go s.element)
   where
     go : (w : Element) → size_of w ≡ checked_size w

@@ -1,8 +1,7 @@
 -- Open calls of C and those of slot code.
-use Rattle.std.proofs.Common.{◌≡◌, ℕ, suc, ◌+◌, ◌<◌, ◌≤◌, List, [], ◌∷◌, length, sym, subst, arith}
+use Rattle.std.proofs.Common.{◌≡◌, ℕ, suc, ◌+◌, ◌<◌, ◌≤◌, List, [], ◌∷◌, length, map, sym, subst, arith}
 use Rattle.nx_base.specs.Calls.{Call}
 use Rattle.nx_cobjects.specs.declared.value.Value.{Value}
-use Rattle.nx_cobjects.specs.declared.value.Value.TheVariants as value
 use Rattle.nx_cobjects.specs.Memory.{Memory}
 use Rattle.nx_cobjects.specs.Groups.{Group}
 use Rattle.nx_cmean.specs.Meaning.{Frame, given}
@@ -17,11 +16,12 @@ use Rattle.nx_lower.proofs.Cells.{Top, Plain, Tops, AreAlike, alike_push}
 use Rattle.nx_lower.proofs.Steps.{Leads}
 use Rattle.nx_lower.proofs.Idle.{weight}
 use Rattle.nx_lower.proofs.Lies.{Lies, EntryLies}
+use Rattle.nx_lower.proofs.Telling.{CanTell}
 
 module _ (s : Source) (p : Code) where
   -- Where an open call goes on: its items lie there, or it begins, and its arrays are the last ones.
   pub data Place (m : Memory) (c : Frame) (f : SlotFrame) (made back exit o : ℕ) : Type 0 where
-    Runs : (top : Top) → Tops (counts s) top c.cells c.values f.cells → Lies s p c.function back exit c.todo f.place (record { cells = length c.cells; made = made }) (length c.values) top o → Place m c f made back exit o
+    Runs : (top : Top) → (function_at p c.function).locals ≤ length c.cells → Tops (counts s) top c.cells c.values f.cells → Lies s p c.function back exit c.todo f.place (record { cells = length c.cells; made = made }) (length c.values) top o → Place m c f made back exit o
     Begins : c.values ≡ [] → AreAlike (counts s) c.cells [] f.cells → EntryLies s p c.function back exit c.todo f.place (record { cells = length c.cells; made = made }) o → c.from + made ≡ length m.own → Place m c f made back exit o
 
   pub record Acting (m : Memory) (c : Frame) (f : SlotFrame) (o : ℕ) : Type 0 where
@@ -42,6 +42,7 @@ module _ (s : Source) (p : Code) where
     pub names : f.arrays ≡ names_from (statics_in (counts s) + c.from) made
     pub arrays : c.arrays ≡ length (function_at p c.function).arrays
     pub cell : f.wants ≡ length c.cells + length c.values
+    pub whole : (function_at p c.function).locals ≤ length c.cells
     pub alike : AreAlike (counts s) c.cells c.values f.cells
     pub back : ℕ
     pub exit : ℕ
@@ -75,7 +76,7 @@ module _ (s : Source) (p : Code) where
           arrays = t.arrays;
           back = t.back;
           exit = t.exit;
-          place = Runs Plain (subst (λ (i : ℕ). AreAlike (counts s) c.cells (x ∷ c.values) (put f.cells i (shown (counts s) x))) (sym t.cell) (alike_push (counts s) c.cells c.values f.cells x t.alike)) t.lies;
+          place = Runs Plain t.whole (subst (λ (i : ℕ). AreAlike (counts s) c.cells (x ∷ c.values) (put f.cells i (shown (counts s) x))) (sym t.cell) (alike_push (counts s) c.cells c.values f.cells x t.alike)) t.lies;
         },
         w.4,
       )
@@ -107,6 +108,8 @@ module _ (s : Source) (p : Code) where
     pub turns : ℕ
     pub runs : run p turns start ≡ Requested c pointers (state to (objects_of m)) cost
     pub same : counts_of m.group ≡ counts s
+    pub points : pointers ≡ map (shown (counts s)) outputs
+    pub ready : CanTell (counts s) (length m.own) p.rows c outputs
     pub waits : AllWait t to owed
     pub some : 0 < length t
     pub fits : stack_need s.program t ≤ p.stack

@@ -56,6 +56,11 @@ mutual
   place_some (Index a i) = omega arith
   place_some (Deref a) = temps_some a
 
+-- Each argument has a cell of its own.
+count_few : (xs : Args) → count xs ≤ args_temps xs
+count_few NoMore = omega arith
+count_few (More e xs) = let h = count_few xs in omega (arith, h)
+
 module _ (s : Source) (p : Code) where
   -- An operator that may have a constant on its right.
   apply_lies : (q : Infix) (b : Expr) (f back exit : ℕ) (k : List Item) (pc : ℕ) (z : Stage) (d o : ℕ) → ((top : Top) → may_be q top) → HasAt (ops_in p f) pc (apply_code q (z.cells + d) (z.cells + suc d) (right_of b (z.cells + suc d))) → z.cells + suc d < limit p f
@@ -250,10 +255,11 @@ module _ (s : Source) (p : Code) where
         let ca = args_code s z.cells d xs in let tail = arguments_code (fun_at s.program g).params (z.cells + d) ++ op.Go g (z.cells + d) (count xs) ∷ [] in
         let h = has_back (ops_in p f) pc ca tail has in
         let e : pc + length (ca ++ tail) ≡ pc + length ca + length tail = omega (arith, length-append ca tail) in
-        let P = λ (e : ℕ). let code = arguments_code (fun_at s.program g).params (z.cells + e) ++ op.Go g (z.cells + e) (count xs) ∷ [] in (r : ℕ) × (r + 7 * count xs ≤ o + 16 * count xs) × (HasAt (ops_in p f) (pc + length ca) code × (z.cells + e < limit p f) × ((g < length s.program.functions) × (count xs ≡ length (fun_at s.program g).params) × Lies s p f back exit (Called ∷ k) (pc + length ca + length code) z (suc e) Plain r)) in
+        let few = count_few xs in
+        let P = λ (e : ℕ). let code = arguments_code (fun_at s.program g).params (z.cells + e) ++ op.Go g (z.cells + e) (count xs) ∷ [] in (r : ℕ) × (r + 7 * count xs ≤ o + 16 * count xs) × (HasAt (ops_in p f) (pc + length ca) code × (z.cells + e < limit p f) × ((g < length s.program.functions) × (count xs ≡ length (fun_at s.program g).params) × (z.cells + e + count xs ≤ limit p f) × Lies s p f back exit (Called ∷ k) (pc + length ca + length code) z (suc e) Plain r)) in
         all_lie xs f back exit (Enter g (count xs) ∷ Called ∷ k) pc z d o sound.2 (omega (arith, fits)) (has_front (ops_in p f) pc ca tail has)
         (stands s p f back exit (Enter g (count xs)) (Called ∷ k) (pc + length ca) z (deep (count xs) d) Plain (o + 16 * count xs)
-        (pops_deep (count xs) d P (o, omega arith, (h, omega (arith, fits), (sound.0, sound.1, stands s p f back exit Called k (pc + length ca + length tail) z (suc d) Plain o (lies_at s p f back exit k _ _ z (suc d) Plain (o + 16) e l))))))
+        (pops_deep (count xs) d P (o, omega arith, (h, omega (arith, fits), (sound.0, sound.1, omega (arith, fits, few), stands s p f back exit Called k (pc + length ca + length tail) z (suc d) Plain o (lies_at s p f back exit k _ _ z (suc d) Plain (o + 16) e l))))))
 
     pub loaded_lies : (q : Place) (w : Element) (f back exit : ℕ) (k : List Item) (pc : ℕ) (z : Stage) (d o : ℕ) → SoundPlace s z q → z.cells + d + place_temps q ≤ limit p f → HasAt (ops_in p f) pc (loaded_code s z.cells d w q) → Lies s p f back exit k (pc + length (loaded_code s z.cells d w q)) z (suc d) Plain (o + 16) → Lies s p f back exit (loaded_then w q k) pc z d Plain o
     loaded_lies (Index a i) w f back exit k pc z d o sound fits has l =

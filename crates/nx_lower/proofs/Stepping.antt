@@ -192,6 +192,7 @@ module _ (s : Source) (p : Code) (f back exit from arrays made wants : ℕ) (nam
         owed = o + 16;
         turns = 1 + (1 + 1);
         moves_on = λ z. absurd (omega (arith, z));
+        called = refl;
         leads = leads_on p start (at pc cells m) end 11 (7 + 6) 1 (1 + 1) leads (leads_on p (at pc cells m) (at (pc + 1) cells new) end 7 6 1 1 one two);
         same = u.counts ∙ same;
         alike = alike_top (counts s) locals vs cells (value.Point b place) (value.Int old) r;

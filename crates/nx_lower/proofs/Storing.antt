@@ -74,6 +74,7 @@ module _ (s : Source) (p : Code) (f back exit from arrays made wants : ℕ) (nam
         owed = o + 16;
         turns = turns + 1;
         moves_on = λ z. absurd (omega (arith, z));
+        called = refl;
         leads = leads_on p start (at pc cells m) (at (pc + 1) (put cells x (shown (counts s) v)) m) cost 6 turns 1 leads one;
         same = same;
         alike = alike_write (counts s) locals (u ∷ rest) cells x v known a;
@@ -94,6 +95,7 @@ module _ (s : Source) (p : Code) (f back exit from arrays made wants : ℕ) (nam
         owed = o + 16;
         turns = turns + 1;
         moves_on = λ z. absurd (omega (arith, z));
+        called = refl;
         leads = leads_on p start (at pc cells m) (at (pc + 1) cells new) cost 5 turns 1 leads one;
         same = ap (λ n. let c : _ = record { scalars = n; arrays = length m.group.arrays; texts = length m.group.texts } in c) (length-set m.group.scalars x n) ∙ same;
         alike = a;
@@ -169,6 +171,7 @@ module _ (s : Source) (p : Code) (f back exit from arrays made wants : ℕ) (nam
         owed = o + 16;
         turns = turns + 1;
         moves_on = λ z. absurd (omega (arith, z));
+        called = refl;
         leads = leads_on p start (at pc cells m) (at (pc + 1) (put cells i (slot.Int v)) m) cost 6 turns 1 leads one;
         same = same;
         alike = alike_top (counts s) locals vs cells a (value.Int v) r;
@@ -188,6 +191,7 @@ module _ (s : Source) (p : Code) (f back exit from arrays made wants : ℕ) (nam
         owed = o + 16;
         turns = turns + 1;
         moves_on = λ z. absurd (omega (arith, z));
+        called = refl;
         leads = leads_on p start (at pc cells m) (at (pc + 1) (put cells i (slot.Int n)) m) cost 7 turns 1 leads one;
         same = same;
         alike = alike_top (counts s) locals vs cells a (value.Int n) r;

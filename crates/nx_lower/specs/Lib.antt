@@ -3,3 +3,4 @@ pub mod Code
 pub mod Bodies
 pub mod Laws
 pub mod Sound
+pub mod Programs

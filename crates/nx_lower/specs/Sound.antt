@@ -1,5 +1,7 @@
 -- Checked programs whose names there are, and whose calls have as many arguments as parameters.
-use Rattle.std.specs.Prelude.{◌≡◌, ◌≢◌, ℕ, ◌+◌, ◌<◌, ◌≤◌, List, [], ◌∷◌, length, Option, Some, None, slice_get}
+use Rattle.std.specs.Prelude.{◌≡◌, ◌≢◌, ℕ, suc, ◌+◌, ◌<◌, ◌≤◌, List, [], ◌∷◌, length, Option, Some, None, slice_get}
+use Rattle.nx_base.specs.declared.calls.Kind.{Kind}
+use Rattle.nx_base.specs.declared.calls.Kind.TheVariants.{Out, Out4, Out8}
 use Rattle.nx_base.specs.Calls.{Rows}
 use Rattle.nx_checked.specs.declared.checked.Cell.{Cell}
 use Rattle.nx_checked.specs.declared.checked.Cell.TheVariants as cell
@@ -104,11 +106,19 @@ pub record SoundFun (s : Source) (g : Fun) : Type 0 where
   pub initials : SoundAll s (whole g) g.initials
   pub body : SoundStmts s (whole g) g.body
 
--- The rows of the call table are those that a program names, with at most six parameters.
+abbrev pub outputs_in : List Kind → ℕ
+outputs_in [] = 0
+outputs_in (Out ∷ kinds) = suc (outputs_in kinds)
+outputs_in (Out4 ∷ kinds) = suc (outputs_in kinds)
+outputs_in (Out8 ∷ kinds) = suc (outputs_in kinds)
+outputs_in (kind ∷ kinds) = outputs_in kinds
+
+-- The rows of the call table are those that a program names, with at most six parameters, of which two have outputs.
 pub record SoundCall (rows : Rows) (c : UsedCall) : Type 0 where
   pub row : rows c.number ≡ record { kinds = c.kinds; enters = enters c }
   pub number : c.number ≢ 0
   pub few : length c.kinds ≤ 6
+  pub outputs : outputs_in c.kinds ≤ 2
 
 pub record SoundProgram (s : Source) (rows : Rows) : Type 0 where
   pub functions : (f : ℕ) → f < length s.program.functions → SoundFun s (fun_at s.program f)

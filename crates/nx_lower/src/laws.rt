@@ -1,4 +1,5 @@
 ghost use Rattle.nx_lower.specs.Laws.{LoadsAlike, StoresAlike, VariablesAlike, ArraysAlike, EndsAlike, OutputsAlike, CallsAlike};
+ghost use Rattle.nx_lower.specs.Programs.{LowersPrograms};
 
 /// A law: where C reads an element, slot code reads the same number, and where C stores one, slot code stores it, and
 /// both have the same objects after it.
@@ -26,4 +27,13 @@ pub fn outputs_are_put_alike()
 /// A law: a call of the kernel has the same words and bytes, and its outputs are put at the same pointers.
 pub fn calls_have_the_same_words_and_bytes()
     ensures { CallsAlike }
+{}
+
+/// A law: the slot code of a program makes the same calls as the program, with the same words and bytes, and goes on
+/// alike after every reply that fits, whatever the variables and arrays of the file are by then. It ends with the same
+/// number, and where the program has no room for a call of a function it tells the same need. By each of these it costs
+/// at most 64 instructions for each step of the program, and it makes no call that the program doesn't make. Where the
+/// program goes wrong, nothing is said.
+pub fn slot_code_keeps_its_program()
+    ensures { LowersPrograms }
 {}

@@ -72,6 +72,7 @@ unfolding jump_code
 jumps e r v start here there true t b i k s a = record {
   count = 1;
   few = omega arith;
+  some = omega arith;
   new = t;
   next = (instructions e r v (start + here) t b i a).jump (start + there) (from_to here there) s.0 (way start here there (let f = s.1 in omega (arith, f)) k.below) k.aligned;
   keeps = keeps_same t;
@@ -88,6 +89,7 @@ jumps e r v start here there false t b i k s a =
     record {
       count = 2;
       few = omega arith;
+      some = omega arith;
       new = t1;
       next = on e 1 1 r v (pc + 4) (start + there) t1 t1 b b one last;
       keeps = keeps_others t t1 5 five (λ j q. put_other t 5 _ j q);
@@ -170,13 +172,14 @@ leads_behind : (e : Place) (c : List Inst) (most : ℕ) (r : Regs) (v : View) (p
 leads_behind e c most r v pc to t u b n k m = record {
   count = length c + m.count;
   few = let f = m.few in omega (arith, f);
+  some = let f = m.some in omega (arith, f);
   new = m.new;
   next = on e (length c) m.count r v (pc + 4 * length c) to u m.new b b n m.next;
   keeps = keeps_then t u m.new k m.keeps;
 }
 
 one_leads : (e : Place) (most : ℕ) (r : Regs) (v : View) (to : ℕ) (t : ℕ → ℕ) (b : Bytes) → 1 ≤ most → Next e 1 r v to t b → Leads e most r v to t b
-one_leads e most r v to t b l n = record { count = 1; few = l; new = t; next = n; keeps = keeps_same t }
+one_leads e most r v to t b l n = record { count = 1; few = l; some = omega arith; new = t; next = n; keeps = keeps_same t }
 
 -- A test whose two sides are in registers.
 record Skips (e : Place) (o : Comparison) (x y most : ℕ) (r : Regs) (v : View) (behind to : ℕ) (t : ℕ → ℕ) (b : Bytes) : Type 0 where

@@ -16,10 +16,11 @@ use Rattle.nx_pieces.specs.Parts.{IsCode}
 use Rattle.nx_pieces.specs.Cells.{cell_word, Open, Keeps}
 use Rattle.nx_operations.specs.Laws.{operand_word, IsShown}
 
--- At most so many instructions lead to a place, and leave the registers that a thread keeps, the temporaries and all bytes.
+-- One instruction or more, and at most so many, lead to a place, and leave the registers that a thread keeps, the temporaries and all bytes.
 pub record Leads (e : Place) (most : ℕ) (r : Regs) (v : View) (to : ℕ) (t : ℕ → ℕ) (b : Bytes) : Type 0 where
   pub count : ℕ
   pub few : count ≤ most
+  pub some : 1 ≤ count
   pub new : ℕ → ℕ
   pub next : Next e count r v to new b
   pub keeps : Keeps t new

@@ -32,11 +32,11 @@ pub register_bounds : (g : SlotFunction) (i : ℕ) → in_register g i ≡ true 
 unfolding in_register
 register_bounds g i h = (grind (arith, nat_tests), grind (arith, nat_tests))
 
-local_at : (g : SlotFunction) (i : ℕ) → i < g.locals → cell_at g i ≡ 4 * (1 + g.temporaries + i)
+pub local_at : (g : SlotFunction) (i : ℕ) → i < g.locals → cell_at g i ≡ 4 * (1 + g.temporaries + i)
 unfolding cell_at
 local_at g i h = let q : nat_lt i g.locals ≡ true = grind (arith, nat_tests) in rw q refl
 
-temporary_at : (g : SlotFunction) (i : ℕ) → g.locals ≤ i → cell_at g i ≡ 4 * (1 + (i - g.locals))
+pub temporary_at : (g : SlotFunction) (i : ℕ) → g.locals ≤ i → cell_at g i ≡ 4 * (1 + (i - g.locals))
 unfolding cell_at
 temporary_at g i h = let q : nat_lt i g.locals ≡ false = grind (arith, nat_tests) in rw q refl
 

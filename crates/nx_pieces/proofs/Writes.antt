@@ -22,11 +22,11 @@ use Rattle.nx_pieces.proofs.Cells.{by_test, register_bounds, inside, cells_apart
 spare_written : (s : ℕ) → IsSpare s → IsWritten s
 spare_written s h = (grind (arith, nat_tests), omega (arith, h))
 
-cell_in_register : (g : SlotFunction) (sp : ℕ) (t : ℕ → ℕ) (b : Bytes) (i : ℕ) → in_register g i ≡ true → cell_word g sp t b i ≡ t (register_of g i)
+pub cell_in_register : (g : SlotFunction) (sp : ℕ) (t : ℕ → ℕ) (b : Bytes) (i : ℕ) → in_register g i ≡ true → cell_word g sp t b i ≡ t (register_of g i)
 unfolding cell_word
 cell_in_register g sp t b i q = rw q refl
 
-cell_in_word : (g : SlotFunction) (sp : ℕ) (t : ℕ → ℕ) (b : Bytes) (i : ℕ) → in_register g i ≡ false → cell_word g sp t b i ≡ number_at b (sp + cell_at g i) 4
+pub cell_in_word : (g : SlotFunction) (sp : ℕ) (t : ℕ → ℕ) (b : Bytes) (i : ℕ) → in_register g i ≡ false → cell_word g sp t b i ≡ number_at b (sp + cell_at g i) 4
 unfolding cell_word
 cell_in_word g sp t b i q = rw q refl
 

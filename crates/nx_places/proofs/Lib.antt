@@ -1,2 +1,3 @@
 pub mod Standing
 pub mod Costs
+pub mod There

@@ -1,16 +1,16 @@
 -- Operations stand one behind the other.
-use Rattle.std.proofs.Common.{◌≡◌, ℕ, zero, suc, ◌+◌, ◌*◌, List, [], ◌∷◌, ◌++◌, length, Some, refl, subst, arith}
+use Rattle.std.proofs.Common.{◌≡◌, ℕ, zero, suc, ◌+◌, ◌*◌, ◌≤◌, List, [], ◌∷◌, ◌++◌, length, Some, refl, ap, subst, arith, length-append}
 use Rattle.std.specs.Prelude.{slice_get}
 use Rattle.nx_slot.specs.declared.op.SlotOp.{SlotOp}
 use Rattle.nx_slot.specs.declared.program.SlotFunction.{SlotFunction}
 use Rattle.nx_codegen.specs.Addresses.{Links}
 use Rattle.nx_codegen.specs.Calling.{enter_code}
-use Rattle.nx_codegen.specs.Code.{is_near, place_of, code_from, code_of}
-use Rattle.nx_codegen.proofs.Lengths.{same_length, offset_first, offset_next}
+use Rattle.nx_codegen.specs.Code.{operation_code, offset, is_near, place_of, code_from, code_of}
+use Rattle.nx_codegen.proofs.Lengths.{same_length, offset_first, offset_next, place_aligned}
 use Rattle.nx_shown.specs.Places.{Place}
 use Rattle.nx_pieces.specs.Parts.{IsCode}
 use Rattle.nx_pieces.proofs.Parts.{front, back}
-use Rattle.nx_places.specs.Laws.{code_at, EntriesStandFirst, OperationsStand, PlacesFollow}
+use Rattle.nx_places.specs.Laws.{code_at, EntriesStandFirst, OperationsStand, PlacesFollow, PlacesLie}
 
 place_first : (g : SlotFunction) → place_of g 0 ≡ 4 * length (enter_code g)
 unfolding place_of
@@ -56,3 +56,25 @@ stand e l g start at o s q =
     let z : 0 + at ≡ at = omega arith in
     subst (λ k. IsCode e (start + place_of g k) (code_at l g k o)) z
     (stands_from e l g start 0 at g.ops o (λ j x w. let v : j ≡ 0 + j = omega arith in subst (λ k. slice_get g.ops k ≡ Some x) v w) q (subst (λ x. IsCode e x (code_from l g 0 g.ops)) n b))
+
+-- No operation begins behind all instructions.
+all_length : (l : Links) (g : SlotFunction) (at k : ℕ) (ops : List SlotOp) → offset (is_near g) g ops k ≤ 4 * length (code_from l g at ops)
+unfolding code_from offset
+all_length l g at k [] = omega arith
+all_length l g at zero (o ∷ ops) = omega arith
+all_length l g at (suc k) (o ∷ ops) =
+    let h = all_length l g (suc at) k ops in
+    let s = same_length l (is_near g) g (place_of g) (place_of g at) at o in
+    let n = length-append (operation_code l (is_near g) g (place_of g) (place_of g at) at o) (code_from l g (suc at) ops) in
+    omega (arith, h, s, n)
+
+place_up : (l : Links) (g : SlotFunction) (at : ℕ) → place_of g at ≤ 4 * length (code_of l g)
+unfolding place_of
+place_up l g at =
+    let h = all_length l g 0 at g.ops in
+    let n = length-append (enter_code g) (code_from l g 0 g.ops) in
+    let w = ap length (in_parts l g) in
+    omega (arith, h, n, w)
+
+pub lie : PlacesLie
+lie e l g start at s al = let p = place_aligned g at in let h = place_up l g at in let f = s.1 in (omega (arith, p, al), omega (arith, h, f))

@@ -1,5 +1,5 @@
 -- Where the instructions of an operation stand, and how many they are.
-use Rattle.std.specs.Prelude.{◌≡◌, ℕ, suc, ◌+◌, ◌*◌, ◌≤◌, Bool, List, length, Some, slice_get}
+use Rattle.std.specs.Prelude.{◌≡◌, ℕ, suc, ◌+◌, ◌*◌, ◌%◌, ◌^◌, ◌<◌, ◌≤◌, Bool, List, length, Some, slice_get}
 use Rattle.nx_rv.specs.declared.inst.Inst.{Inst}
 use Rattle.nx_slot.specs.declared.op.SlotOp.{SlotOp}
 use Rattle.nx_slot.specs.declared.op.SlotOp.TheVariants as op
@@ -24,6 +24,9 @@ OperationsStand = (e : Place) (l : Links) (g : SlotFunction) (start at : ℕ) (o
 abbrev pub PlacesFollow : Type 0
 PlacesFollow = (l : Links) (g : SlotFunction) (at : ℕ) (o : SlotOp) → slice_get g.ops at ≡ Some o → place_of g (suc at) ≡ place_of g at + 4 * length (code_at l g at o)
 
+abbrev pub PlacesLie : Type 0
+PlacesLie = (e : Place) (l : Links) (g : SlotFunction) (start at : ℕ) → IsCode e start (code_of l g) → start % 4 ≡ 0 → ((start + place_of g at) % 4 ≡ 0) × (start + place_of g at < 2 ^ 32)
+
 -- Calls, returns and the making of arrays are made of more than their own instructions.
 abbrev pub IsPlain : SlotOp → Type 0
 IsPlain (op.Ask number first count) = ⊥
@@ -34,3 +37,6 @@ IsPlain o = Unit {0}
 
 abbrev pub CostsSuffice : Type 0
 CostsSuffice = (l : Links) (near : Bool) (g : SlotFunction) (there : ℕ → ℕ) (here at : ℕ) (o : SlotOp) → IsPlain o → length (operation_code l near g there here at o) ≤ cost_of g o
+
+abbrev pub InstructionsAreThere : Type 0
+InstructionsAreThere = (l : Links) (near : Bool) (g : SlotFunction) (there : ℕ → ℕ) (here at : ℕ) (o : SlotOp) → IsPlain o → 1 ≤ length (operation_code l near g there here at o)

@@ -57,7 +57,7 @@ fits : (e : Place) (r : Regs) (v : View) (pc : ℕ) (t : ℕ → ℕ) (b : Bytes
 fits e r v pc t b i s a = (s v a.sees.text).0.1
 
 -- One register is written, the pc goes on, or it jumps.
-after_write : (e : Place) (r : Regs) (v : View) (pc : ℕ) (t : ℕ → ℕ) (b : Bytes) (rd x : ℕ) → (rd == 0) ≡ false → rd < 32 → x < 2 ^ 32 → At e r v pc t b → At e (with_reg r rd x) v pc (put t rd x) b
+pub after_write : (e : Place) (r : Regs) (v : View) (pc : ℕ) (t : ℕ → ℕ) (b : Bytes) (rd x : ℕ) → (rd == 0) ≡ false → rd < 32 → x < 2 ^ 32 → At e r v pc t b → At e (with_reg r rd x) v pc (put t rd x) b
 after_write e r v pc t b rd x z l h a =
     stands_at e _ v pc (put t rd x) b (wrote r pc t rd x z l (is_at e r v pc t b a)) a.sees
     (put_other t rd x 0 (λ q. let n : rd ≢ 0 = grind (arith, nat_tests) in n (sym q)) ∙ a.zero)

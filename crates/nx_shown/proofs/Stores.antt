@@ -17,7 +17,7 @@ pub put_other : (t : ℕ → ℕ) (k n j : ℕ) → j ≢ k → put t k n j ≡ 
 put_other t k n j o = grind (arith, nat_tests)
 
 -- Bytes before and behind those that are put.
-outside : (b : Bytes) (a : ℕ) (xs : List ℕ) (c : ℕ) → (c < a) ⊎ (a + length xs ≤ c) → with_bytes b a xs c ≡ b c
+pub outside : (b : Bytes) (a : ℕ) (xs : List ℕ) (c : ℕ) → (c < a) ⊎ (a + length xs ≤ c) → with_bytes b a xs c ≡ b c
 unfolding with_bytes
 outside b a [] c o = refl
 outside b a (x ∷ xs) c o =
@@ -39,7 +39,7 @@ put_back b a (x ∷ xs) =
     ∙ ap (λ l. x ∷ l) (put_back (put b a x) (a + 1) xs)
 
 -- The bytes of a list, as the function has them, before and after others are put.
-listed : (bs : List ℕ) (start : ℕ) (b : Bytes) (a n : ℕ) → start ≤ a → ((c : ℕ) → a ≤ c → c < a + n → slice_index bs (c - start) ≡ b c) → get_bytes bs (a - start) n ≡ bytes_at b a n
+pub listed : (bs : List ℕ) (start : ℕ) (b : Bytes) (a n : ℕ) → start ≤ a → ((c : ℕ) → a ≤ c → c < a + n → slice_index bs (c - start) ≡ b c) → get_bytes bs (a - start) n ≡ bytes_at b a n
 unfolding bytes_at get_bytes
 listed bs start b a zero l h = refl
 listed bs start b a (suc n) l h =
@@ -48,7 +48,7 @@ listed bs start b a (suc n) l h =
     ∙ ap (λ k. b a ∷ get_bytes bs k n) e
     ∙ ap (λ m. b a ∷ m) (listed bs start b (a + 1) n (omega arith) (λ c k m. h c (omega (arith, k)) (omega (arith, m))))
 
-listed_after : (bs : List ℕ) (start : ℕ) (b : Bytes) (a : ℕ) (xs : List ℕ) (c : ℕ) → start ≤ a → a + length xs ≤ start + length bs → start ≤ c → slice_index bs (c - start) ≡ b c
+pub listed_after : (bs : List ℕ) (start : ℕ) (b : Bytes) (a : ℕ) (xs : List ℕ) (c : ℕ) → start ≤ a → a + length xs ≤ start + length bs → start ≤ c → slice_index bs (c - start) ≡ b c
     → slice_index (put_bytes bs (a - start) xs) (c - start) ≡ with_bytes b a xs c
 unfolding with_bytes
 listed_after bs start b a [] c l m k h = ap (λ ys. slice_index ys (c - start)) (put_bytes-none bs (a - start)) ∙ h
@@ -63,11 +63,11 @@ listed_after bs start b a (x ∷ xs) c l m k h =
     (λ q. get_or-set_other bs (a - start) (c - start) x 0 (λ i. q (omega (arith, i, l, k))) ∙ h ∙ sym (put_other b a x c q))
     (cases_eq c a))
 
-in_window : (w : Window) (low top a n : ℕ) → w.start ≤ low → top ≤ w.start + length w.bytes → low ≤ a → a + n ≤ top → holds w a n ≡ true
+pub in_window : (w : Window) (low top a n : ℕ) → w.start ≤ low → top ≤ w.start + length w.bytes → low ≤ a → a + n ≤ top → holds w a n ≡ true
 unfolding holds
 in_window w low top a n f t l m = grind (arith, nat_tests)
 
-off_window : (w : Window) (low top a n : ℕ) → IsOff w low top → low ≤ a → a + n ≤ top → 1 ≤ n → holds w a n ≡ false
+pub off_window : (w : Window) (low top a n : ℕ) → IsOff w low top → low ≤ a → a + n ≤ top → 1 ≤ n → holds w a n ≡ false
 unfolding holds
 off_window w low top a n (inl o) l m p = grind (arith, nat_tests)
 off_window w low top a n (inr o) l m p = grind (arith, nat_tests)

@@ -1,0 +1,4 @@
+pub mod Cells
+pub mod Peeling
+pub mod Written
+pub mod Acts

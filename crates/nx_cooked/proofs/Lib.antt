@@ -1,0 +1,5 @@
+pub mod Good
+pub mod Lying
+pub mod Cooking
+pub mod Putting
+pub mod Delivering

@@ -1,0 +1,4 @@
+pub mod Elements
+pub mod Storing
+pub mod Making
+pub mod Stored
