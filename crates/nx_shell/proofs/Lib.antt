@@ -1,0 +1,11 @@
+pub mod ByteTexts
+pub mod ByteRuns
+pub mod Cutting
+pub mod WordPlaces
+pub mod Advancing
+pub mod Handing
+pub mod Walked
+pub mod TablePlaces
+pub mod Shelled
+pub mod Empty
+pub mod Resuming
