@@ -49,4 +49,12 @@ impl Ends {
     {
         self.items.as_slice()
     }
+
+    /// One more group ended.
+    pub fn add(&mut self, ended: Ended)
+        requires { length self.old.ends < self.old.room }
+        ensures { self.new ≡ record self.old { ends = self.old.ends ++ ending_of ended ∷ [] } }
+    {
+        self.items.push(ended).unwrap();
+    }
 }

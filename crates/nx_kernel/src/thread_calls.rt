@@ -17,6 +17,7 @@ pub fn yield_now(caller: Calling, threads: &mut Threads, replies: &mut Replies)
     requires moments { threads.old.moments + 1 < 2 ^ 64 }
     requires room { length replies.old.replies < replies.old.room }
     ensures does { (k : KernelState) (place : ℕ) (group : Group) → Does (scheduled k threads.new) (replies_of replies.old.replies) (replies_of replies.new.replies) (yield_row (scheduled k threads.old) (caller_of caller place group)) }
+    ensures room { replies.new.room ≡ replies.old.room }
 {
     threads.yield_now(caller.thread.number);
     succeed(caller, 0, replies);
@@ -37,6 +38,7 @@ pub fn set_priority(
     requires moments { threads.old.moments + 1 < 2 ^ 64 }
     requires room { length replies.old.replies < replies.old.room }
     ensures does { (k : KernelState) (place : ℕ) (g : Group) → g.number ≡ group → Does (scheduled k threads.new) (replies_of replies.old.replies) (replies_of replies.new.replies) (setpriority_row (scheduled k threads.old) (caller_of caller place g) thread priority) }
+    ensures room { replies.new.room ≡ replies.old.room }
 {
     let number = if thread == 0 {
         caller.thread.number
@@ -62,6 +64,7 @@ pub fn errno(caller: Calling, replies: &mut Replies)
     requires errno { nat_abs caller.thread.errno < 2 ^ 31 }
     requires room { length replies.old.replies < replies.old.room }
     ensures does { (k : KernelState) (place : ℕ) (group : Group) → Does k (replies_of replies.old.replies) (replies_of replies.new.replies) (errno_row k (caller_of caller place group)) }
+    ensures room { replies.new.room ≡ replies.old.room }
 {
     succeed(caller, caller.thread.errno.unsigned_abs(), replies);
 }

@@ -18,6 +18,7 @@ use nx_sched::Threads;
 pub fn ticks(caller: Calling, clock: &Clock, replies: &mut Replies)
     requires room { length replies.old.replies < replies.old.room }
     ensures does { (k : KernelState) (place : ℕ) (group : Group) (sched : Schedule) → Does (timed k clock.now sched) (replies_of replies.old.replies) (replies_of replies.new.replies) (ticks_row (timed k clock.now sched) (caller_of caller place group)) }
+    ensures room { replies.new.room ≡ replies.old.room }
 {
     succeed(caller, (clock.time() % 2147483648) as u32, replies);
 }
@@ -35,6 +36,7 @@ pub fn sleep(
     requires moments { threads.old.moments + 1 < 2 ^ 64 }
     requires room { length replies.old.replies < replies.old.room }
     ensures does { (k : KernelState) (place : ℕ) (group : Group) → Does (timed k clock.now threads.new) (replies_of replies.old.replies) (replies_of replies.new.replies) (sleep_row (timed k clock.now threads.old) (caller_of caller place group) ticks) }
+    ensures room { replies.new.room ≡ replies.old.room }
 {
     if ticks >= 2147483648 {
         refuse(caller, Errno::Einval, threads, replies);

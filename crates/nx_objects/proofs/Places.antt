@@ -15,17 +15,17 @@ pub placed_description : (n place : ℕ) (o : Objects) (to : Option Open) (ds : 
 placed_description n place o to ds e p = record { few = p.few; descriptors = p.descriptors; descriptions = ap length e ∙ length-set o.descriptions place to ∙ p.descriptions; queues = p.queues; semaphores = p.semaphores }
 
 pub same_description : (place : ℕ) (o o' : Objects) (to : Option Open) (ds : List (Option Open)) → ds ≡ slice_set o.descriptions place to → SamePlaces (record o { descriptions = ds }) o' → SamePlaces o o'
-same_description place o o' to ds e s = record { descriptors = s.descriptors; descriptions = s.descriptions ∙ ap length e ∙ length-set o.descriptions place to; queues = s.queues; semaphores = s.semaphores }
+same_description place o o' to ds e s = record { descriptors = s.descriptors; descriptions = s.descriptions ∙ ap length e ∙ length-set o.descriptions place to; queues = s.queues; semaphores = s.semaphores; paths = s.paths }
 
 -- a descriptor is set
 pub placed_descriptor : (n place : ℕ) (o : Objects) (to : Option ℕ) (ds : List (Option ℕ)) → ds ≡ slice_set o.descriptors place to → ArePlaced n o → ArePlaced n (record o { descriptors = ds })
 placed_descriptor n place o to ds e p = record { few = p.few; descriptors = ap length e ∙ length-set o.descriptors place to ∙ p.descriptors; descriptions = p.descriptions; queues = p.queues; semaphores = p.semaphores }
 
 pub same_descriptor : (place : ℕ) (o o' : Objects) (to : Option ℕ) (ds : List (Option ℕ)) → ds ≡ slice_set o.descriptors place to → SamePlaces (record o { descriptors = ds }) o' → SamePlaces o o'
-same_descriptor place o o' to ds e s = record { descriptors = s.descriptors ∙ ap length e ∙ length-set o.descriptors place to; descriptions = s.descriptions; queues = s.queues; semaphores = s.semaphores }
+same_descriptor place o o' to ds e s = record { descriptors = s.descriptors ∙ ap length e ∙ length-set o.descriptors place to; descriptions = s.descriptions; queues = s.queues; semaphores = s.semaphores; paths = s.paths }
 
 pub same_places : (o : Objects) → SamePlaces o o
-same_places o = record { descriptors = refl; descriptions = refl; queues = refl; semaphores = refl }
+same_places o = record { descriptors = refl; descriptions = refl; queues = refl; semaphores = refl; paths = refl }
 
 -- a place that was kept or emptied
 pub length-kept : {A : Type 0} (b : Bool) (xs : List (Option A)) (place : ℕ) → length (kept_if b xs place) ≡ length xs
@@ -54,6 +54,7 @@ same_then o o' o'' s t = record {
   descriptions = t.descriptions ∙ s.descriptions;
   queues = t.queues ∙ s.queues;
   semaphores = t.semaphores ∙ s.semaphores;
+  paths = t.paths ∙ s.paths;
 }
 
 -- ---- free descriptors
@@ -62,7 +63,7 @@ position_by : (n m : ℕ) (rest : Option ℕ) (b : Bool) (j : ℕ) → (rest ≡
 position_by n m rest true j h e = let s : n ≡ j = cc in omega arith
 position_by n m rest false j h e = let l = h e in omega arith
 
-position_within : {A : Type 0} (p : A → Bool) (n j : ℕ) (xs : List A) → position_from p n xs ≡ Some j → j < n + length xs
+pub position_within : {A : Type 0} (p : A → Bool) (n j : ℕ) (xs : List A) → position_from p n xs ≡ Some j → j < n + length xs
 position_within p n j [] e = absurd cc
 position_within p n j (x ∷ xs) e = position_by n (length xs) (position_from p (n + 1) xs) (p x) j (λ h. position_within p (n + 1) j xs h) e
 

@@ -34,12 +34,13 @@ pub record ArePlaced (threads : ℕ) (o : Objects) : Type 0 where
   pub queues : length o.queues.queues ≤ 65536
   pub semaphores : length o.semaphores ≤ 65536
 
--- each table has the places that it had
+-- each table has the places that it had, and the tree its room for paths
 pub record SamePlaces (old new : Objects) : Type 0 where
   pub descriptors : length new.descriptors ≡ length old.descriptors
   pub descriptions : length new.descriptions ≡ length old.descriptions
   pub queues : length new.queues.queues ≡ length old.queues.queues
   pub semaphores : length new.semaphores ≡ length old.semaphores
+  pub paths : new.tree.limit ≡ old.tree.limit
 
 -- the objects of boot, with those of programs, for so many groups and so many objects
 pub record IsBooted (programs : List (List ℕ)) (groups objects : ℕ) (o : Objects) : Type 0 where

@@ -19,4 +19,4 @@ pub returns-clause-held : goal.returns-clause-held
 returns-clause-held g c = files_moved _ _ _ _ c.args.self.now.files c.sweep.new.self c.args.self.now.queues c.requires c.sweep.ensures.moves
 
 pub returns-clause-places : goal.returns-clause-places
-returns-clause-places g c = record { descriptors = refl; descriptions = refl; queues = refl; semaphores = refl }
+returns-clause-places g c = record { descriptors = refl; descriptions = refl; queues = refl; semaphores = refl; paths = refl }

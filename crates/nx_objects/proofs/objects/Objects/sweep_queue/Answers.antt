@@ -22,4 +22,4 @@ pub returns-clause-held : goal.returns-clause-held
 returns-clause-held g c = queues_moved _ _ _ _ c.args.self.now.files c.args.self.now.queues c.sweep.new.self c.requires.held c.sweep.ensures.moves
 
 pub returns-clause-places : goal.returns-clause-places
-returns-clause-places g c = record { descriptors = refl; descriptions = refl; queues = c.sweep.ensures.places; semaphores = refl }
+returns-clause-places g c = record { descriptors = refl; descriptions = refl; queues = c.sweep.ensures.places; semaphores = refl; paths = refl }

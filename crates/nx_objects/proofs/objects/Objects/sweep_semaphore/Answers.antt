@@ -15,4 +15,5 @@ returns-clause-places c = record {
   descriptions = refl;
   queues = refl;
   semaphores = ap length c.sweep.ensures ∙ length-kept _ c.args.self.now.semaphores c.args.place;
+  paths = refl;
 }
