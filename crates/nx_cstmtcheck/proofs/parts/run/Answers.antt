@@ -1,0 +1,11 @@
+use Rattle.std.proofs.lemmas.Result.{err_from_is_err_and}
+use Rattle.nx_cstmtcheck.specs.Code.{run_rule}
+use Rattle.nx_cexprcheck.specs.Code.{expression_check}
+use Rattle.nx_cleaves.proofs.Given.{one_fails, one_given}
+use Rattle.nx_cstmtcheck.proofs.parts.run.Goals as goal
+
+pub returns-in_err-e : goal.returns-in_err-e
+returns-in_err-e c = let p = err_from_is_err_and c.from_residual.result c.from_residual.ensures.1 in rw (p.1, p.2) (one_fails _ run_rule c.args.line (expression_check c.args.names.now c.args.rows.now c.args.e.now) c.args.used.now c.in_err-e.ensures)
+
+pub returns : goal.returns
+returns c = one_given run_rule c.args.line (expression_check c.args.names.now c.args.rows.now c.args.e.now) c.args.used.now _ _ c.make_run.result c.in_ok-e.ensures c.make_run.ensures
