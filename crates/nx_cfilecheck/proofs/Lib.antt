@@ -1,0 +1,3 @@
+pub mod Definitions
+pub mod Forms
+pub mod Programs
