@@ -9,3 +9,6 @@ mod values;
 
 pub use frame::frame_bytes;
 pub use shapes::{array_bytes, rounded};
+
+#[cfg(test)]
+mod tests;
