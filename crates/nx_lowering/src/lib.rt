@@ -1,0 +1,11 @@
+//! Makes slot code of checked C programs.
+#![tactic(auto)]
+
+mod code;
+mod expression;
+mod function;
+mod operations;
+mod statement;
+mod temporaries;
+
+pub use function::lower_function;
