@@ -1,10 +1,12 @@
 -- What holds of a table's rows holds of its gates.
-use Rattle.std.proofs.Common.{◌≡◌, ◌≢◌, ℕ, ◌+◌, ◌<◌, ◌≤◌, List, [], ◌∷◌, length, map, get_or, refl, sym, ap, ◌∙◌, subst, arith}
+use Rattle.std.proofs.Common.{◌≡◌, ◌≢◌, ℕ, suc, ◌+◌, ◌<◌, ◌≤◌, ◌==◌, Bool, true, false, cond, Option, Some, List, [], ◌∷◌, length, map, get_or, refl, sym, ap, ◌∙◌, subst, arith}
+use Rattle.std.specs.Prelude.{All}
+use Rattle.std.specs.Option.{IfSome}
 use Rattle.std.proofs.lemmas.List.{get_or-map, length-map}
 use Rattle.nx_gate.specs.declared.gate.Gate.{Gate}
 use Rattle.nx_calls.specs.declared.row.CallRow.{CallRow}
 use Rattle.nx_calls.specs.Table.{AreRows}
-use Rattle.nx_gate.specs.Gates.{gate_of, AreSmall, IsGate, AreGates}
+use Rattle.nx_gate.specs.Gates.{gate_of, gate_numbered, AreSmall, IsGate, AreGates}
 
 -- a row with the fields of a gate
 row_of : Gate → CallRow
@@ -37,3 +39,14 @@ gates_made gates rows e p = subst (λ gs. AreGates gs) (sym e) (gates_of_rows ro
 -- the numbers of gates are small
 pub small_numbers : (gates : List Gate) → AreGates gates → AreSmall gates
 small_numbers gates p = λ k d l. let n = p.numbers k d l in (omega (arith, n), omega (arith, n, l, p.few))
+
+-- a gate that is found is one of them
+pub found_fits : (number : ℕ) (gates : List Gate) → All IsGate gates → IfSome (gate_numbered number gates) IsGate
+found_fits number [] p = tt
+found_fits number (g ∷ gs) p =
+    let rest : IfSome (gate_numbered number gs) IsGate = found_fits number gs (λ k d l. p (suc k) d (omega (arith, l))) in
+    chosen (g.number == number) (gate_numbered number gs) (p 0 g (omega (arith))) rest
+  where
+    chosen : (b : Bool) (o : Option Gate) → IsGate g → IfSome o IsGate → IfSome (cond b (Some g) o) IsGate
+    chosen true o here there = here
+    chosen false o here there = there

@@ -1,6 +1,6 @@
-ghost use Rattle.std.specs.Prelude.{◌≡◌, IfOk, map};
+ghost use Rattle.std.specs.Prelude.{◌≡◌, IfOk, IfSome, map};
 ghost use Rattle.std.specs.Option.{option_copied};
-ghost use Rattle.nx_gate.specs.Gates.{gate_of as gate_of_row, gate_numbered, AreSmall, AreGates};
+ghost use Rattle.nx_gate.specs.Gates.{gate_of as gate_of_row, gate_numbered, AreSmall, IsGate, AreGates};
 
 use arrayvec::ArrayVec;
 use nx_base::{Bytes, KCall, Kind, OutOfMemory};
@@ -56,9 +56,10 @@ impl Model for Gates {
 }
 
 impl Gates {
-    /// The gate of a number, if there is one.
+    /// The gate of a number, if there is one. It fits its call.
     pub fn find(&self, number: u32) -> Option<&Gate>
-        ensures { option_copied result ≡ gate_numbered number self.now }
+        ensures value { option_copied result ≡ gate_numbered number self.now }
+        ensures fits { IfSome (option_copied result) IsGate }
     {
         self.gates.iter().find(|gate| gate.number as u32 == number)
     }
