@@ -1,0 +1,12 @@
+mod Entries
+mod Growth
+mod Scopes
+mod Expressions
+mod Statements
+mod Functions
+mod Every
+mod Naming
+mod Files
+mod Calls
+mod Reading
+mod Whole
