@@ -36,6 +36,30 @@ fn gate_of(alloc: Global, row: &CallRow) -> Result<Gate, AllocError>
     })
 }
 
+fn same_gate(alloc: Global, gate: &Gate) -> Result<Gate, AllocError>
+    ensures { IfOk result (λ copy. copy ≡ gate.now) }
+{
+    let name = Bytes::from_slice(alloc, gate.name.as_slice())?;
+    Ok(Gate {
+        name,
+        number: gate.number,
+        kinds: gate.kinds.clone()?,
+        returns: gate.returns,
+        kernel: gate.kernel,
+    })
+}
+
+fn same_gates(alloc: Global, gates: &[Gate]) -> Result<Vec<Gate>, AllocError>
+    ensures { IfOk result (λ v. v.items ≡ gates.now) }
+{
+    let mut same = Vec::new(alloc);
+    for gate in gates {
+        let copy = same_gate(alloc, gate)?;
+        same.push(copy)?;
+    }
+    Ok(same)
+}
+
 /// The gates of a call table, in the order of its rows.
 #[derive(Debug, Drop)]
 pub struct Gates {
@@ -71,6 +95,14 @@ impl Gates {
         ensures hold { AreGates result.now }
     {
         self.gates.as_slice()
+    }
+
+    /// A copy of them.
+    pub fn copy(&self, alloc: Global) -> Result<Gates, OutOfMemory>
+        ensures { IfOk result (λ copy. copy ≡ self.now) }
+    {
+        let gates = same_gates(alloc, self.gates.as_slice())?;
+        Ok(Gates { gates })
     }
 }
 
