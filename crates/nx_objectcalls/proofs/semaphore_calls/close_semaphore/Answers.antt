@@ -1,0 +1,33 @@
+use Rattle.std.proofs.Common.{sym, ap, ◌∙◌}
+use Rattle.nx_ksys.specs.SemaphoreCalls.{sem_close_row, close_semaphore}
+use Rattle.nx_objects.specs.Tables.{with_objects}
+use Rattle.nx_objects.specs.Rows.{at_place}
+use Rattle.nx_objectcalls.specs.Rows.{semaphore_led}
+use Rattle.nx_objectcalls.proofs.Closing.{no_semaphore_closes, semaphore_closes}
+use Rattle.nx_objectcalls.proofs.semaphore_calls.close_semaphore.Goals as goal
+
+pub returns-in-None-clause-row : goal.returns-in-None-clause-row
+unfolding sem_close_row
+returns-in-None-clause-row g c = λ k d.
+    let a = c.args in
+    let content = g.B.BlockStore.content a.blocks.now in
+    let old = with_objects k a.threads.now content a.objects.now in
+    ap (close_semaphore old (at_place d a.group) a.fd) (c.semaphore_at.ensures k a.threads.now content d ∙ ap (semaphore_led old) c.in-None.is)
+
+pub returns-then-not-has-clause-row : goal.returns-then-not-has-clause-row
+unfolding sem_close_row
+returns-then-not-has-clause-row g c = λ k d.
+    let a = c.args in
+    let content = g.B.BlockStore.content a.blocks.now in
+    let old = with_objects k a.threads.now content a.objects.now in
+    ap (close_semaphore old (at_place d a.group) a.fd) (c.semaphore_at.ensures k a.threads.now content d ∙ ap (semaphore_led old) c.in-Some.is)
+    ∙ no_semaphore_closes old (at_place d a.group) a.fd c.in-Some.place _ (sym c.has.ensures ∙ c.if-not-has.true)
+
+pub returns-else-not-has-clause-row : goal.returns-else-not-has-clause-row
+unfolding sem_close_row
+returns-else-not-has-clause-row g c = λ k d.
+    let a = c.args in
+    let content = g.B.BlockStore.content a.blocks.now in
+    let old = with_objects k a.threads.now content a.objects.now in
+    ap (close_semaphore old (at_place d a.group) a.fd) (c.semaphore_at.ensures k a.threads.now content d ∙ ap (semaphore_led old) c.in-Some.is)
+    ∙ semaphore_closes old _ (at_place d a.group) a.fd c.in-Some.place _ (sym c.has.ensures ∙ c.if-not-has.false) (c.close.ensures.state k)
