@@ -24,6 +24,7 @@ pub fn write_console(
     requires room { length replies.old.replies < replies.old.room }
     ensures does { (k : KernelState) (place : ℕ) (group : Group) → Does (with_terminal (scheduled k threads.new) terminal.new) (replies_of replies.old.replies) (replies_of replies.new.replies)
         (write_row (with_terminal (scheduled k threads.old) terminal.old) (caller_of caller place group) bytes.now (min (length bytes.now) (terminal.old.room - length terminal.old.shown))) }
+    ensures console { terminal.new.room ≡ terminal.old.room }
     ensures room { replies.new.room ≡ replies.old.room }
 {
     let count = terminal.room_for(bytes.len());
@@ -40,6 +41,7 @@ pub fn read_console(caller: Calling, most: usize, terminal: &mut Terminal, repli
     requires few { most ≤ 4096 }
     requires room { length replies.old.replies < replies.old.room }
     ensures does { (k : KernelState) (place : ℕ) (group : Group) → Does (with_terminal k terminal.new) (replies_of replies.old.replies) (replies_of replies.new.replies) (read_row (with_terminal k terminal.old) (caller_of caller place group) most) }
+    ensures console { terminal.new.room ≡ terminal.old.room }
     ensures room { replies.new.room ≡ replies.old.room }
 {
     let bytes = terminal.front(most);
