@@ -1,0 +1,9 @@
+pub mod Replying
+pub mod Looping
+pub mod Waiting
+pub mod Beginning
+pub mod Calling
+pub mod Choosing
+pub mod Fitting
+pub mod Coming
+pub mod Acted

@@ -1,0 +1,4 @@
+pub mod Kernels
+pub mod Standing
+pub mod Living
+pub mod Coming
