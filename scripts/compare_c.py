@@ -1,35 +1,41 @@
 #!/usr/bin/env python3
-"""Compares which C programs the parser accepts with what gcc accepts, and where it refuses them.
+"""Compares which C programs the front accepts with what gcc accepts, and where it refuses them.
 
 Run it as `python3 scripts/compare_c.py [COUNT]`, from any folder. It wants gcc, and `rt` in the
-path, and proves and builds crates/nx_syntax where that is not done yet. With NXSIM_TRY=1 it runs
+path, and proves and builds crates/nx_verdicts where that is not done yet. With NXSIM_TRY=1 it runs
 the unproved build.
 
 It makes COUNT programs (250 if left out) of docs/C.md's grammar and types, and of each three
 variants in which a token is dropped, doubled, exchanged with the next or replaced. The set is the
-same in each run, since the seed is fixed. Of each of these texts it wants three things:
+same in each run, since the seed is fixed. The calls are those of examples/syscall.csv; for gcc a
+header is made of them. Of each text it wants four things:
 
-- nx_syntax refuses it at the token where scripts/c_grammar.py does, or accepts it as that does;
-- where nx_syntax accepts it, gcc finds no fault of syntax: it accepts the text, or names a fault of
-  types or names, which the parser doesn't look at;
-- where nx_syntax refuses what gcc accepts, the text has a form of C that docs/C.md leaves out, and
-  which is listed below.
+- nx_verdicts refuses it for syntax at the token where scripts/c_grammar.py does, and nowhere else;
+- where nx_verdicts accepts it, gcc accepts it;
+- where it refuses for syntax what gcc accepts, or for types, the text has a form of C that docs/C.md
+  leaves out, and which is listed below;
+- each program as it was made, and each of examples/, is accepted.
 
 It prints how many texts there are of each sort and all that differ, and exits with 1 if any does.
 """
 
 import collections
 import concurrent.futures
+import csv
+import glob
 import os
 import random
 import re
 import shutil
 import subprocess
 import sys
+import tempfile
 
 import c_grammar
 
-PROGRAM = os.path.join(os.path.dirname(os.path.abspath(__file__)), "..", "crates", "nx_syntax")
+ROOT = os.path.join(os.path.dirname(os.path.abspath(__file__)), "..")
+PROGRAM = os.path.join(ROOT, "crates", "nx_verdicts")
+TABLE = os.path.join(ROOT, "examples", "syscall.csv")
 SEED = 64
 COUNT = 250
 VARIANTS = 3
@@ -48,7 +54,7 @@ LEFT_OUT = {
 }
 
 # As strict as C11 is; what C11 has constraints for, and gcc only warns of, is an error.
-GCC = "gcc -std=c11 -fsyntax-only -pedantic-errors -Werror=implicit-int -Wno-overflow -x c -".split()
+GCC = "gcc -std=c11 -fsyntax-only -pedantic-errors -Werror=implicit-int -Wno-overflow -Wno-div-by-zero -fno-builtin -x c".split()
 
 
 class Maker:
@@ -106,6 +112,11 @@ class Maker:
         if pick < 0.92:
             sign = self.random.choice(["=", "+=", "-=", "*=", "/=", "%="])
             return ["(", *self.target(), sign, *self.value(depth - 1), ")"]
+        if pick < 0.94:
+            buffer = self.random.choice(['"ab"', *self.arrays])
+            return ["write", "(", *self.value(0), ",", buffer, ",", *self.value(0), ")"]
+        if pick < 0.95:
+            return [self.random.choice(["close", "nx_sleep"]), "(", *self.value(depth - 1), ")"]
         if self.chance(0.5):
             return [self.random.choice(self.scalars), self.random.choice(["++", "--"])]
         return [self.random.choice(["++", "--"]), *self.target()]
@@ -214,42 +225,63 @@ def programs(count):
             yield changed(tokens, source)
 
 
-def gcc_says(text):
+def header():
+    """The calls of the table, as gcc wants them."""
+    lines = ["#include <sys/types.h>", "typedef int mqd_t;", "typedef int (*nx_entry_t)(int);"]
+    with open(TABLE, newline="") as file:
+        for name, _, _, result, *parameters in csv.reader(file):
+            lines.append(f"{result} {name}({', '.join(parameters) or 'void'});")
+    return "\n".join(lines) + "\n"
+
+
+def gcc_says(text, included):
     """The first error of gcc, or nothing where it accepts the text."""
-    done = subprocess.run(GCC, input=text, stderr=subprocess.PIPE, text=True)
+    command = [*GCC, "-include", included, "-"]
+    done = subprocess.run(command, input=text, stderr=subprocess.PIPE, text=True)
     errors = re.findall(r" error: (.*)", done.stderr)
     return errors[0] if errors else "" if done.returncode == 0 else "refused"
 
 
 def run_program(texts):
-    """What nx_syntax says of each text."""
+    """What nx_verdicts says of each text."""
     command = ["rt", "try" if os.environ.get("NXSIM_TRY") == "1" else "run"]
-    asked = "".join(f"{text}====\n" for text in texts)
+    with open(TABLE) as file:
+        asked = "".join(f"{text}====\n" for text in [file.read(), *texts])
     done = subprocess.run(command, cwd=PROGRAM, input=asked, stdout=subprocess.PIPE, text=True)
     said = done.stdout.splitlines()
     if done.returncode != 0 or len(said) != len(texts):
-        sys.exit(f"nx_syntax: status {done.returncode}, {len(said)} lines for {len(texts)} texts")
+        sys.exit(f"nx_verdicts: status {done.returncode}, {len(said)} lines for {len(texts)} texts")
     return said
+
+
+def left_out(forms, tokens, at):
+    """The form that is left out at a token, if it is listed, and what stands there."""
+    shown = " ".join([*tokens[max(at - 12, 0) : at], ">>>", *tokens[at : at + 1]])
+    found = [form for form, pattern in forms.items() if re.search(f"(?:{pattern})$", f" {shown}")]
+    return (found[0], True) if found else (shown, False)
 
 
 def sort_of(ours, wanted, theirs, tokens):
     """The sort of a text by what the three say, and whether they agree."""
-    told = "accepted" if wanted is None else f"{wanted + 1}: syntax"
-    if ours != told:
-        return f"nx_syntax says {ours}, the grammar {told}", False
-    if wanted is None:
-        if not theirs:
-            return "accepted by all", True
-        if theirs.startswith("expected"):
-            return f"accepted, but gcc says {theirs}", False
-        return "accepted, and refused by gcc for types or names", True
+    told = "" if wanted is None else f"{wanted + 1}: syntax"
+    if told != (ours if ours.endswith((" syntax", " limit")) else ""):
+        return f"nx_verdicts says {ours}, the grammar {told or 'accepted'}", False
+    if ours == "accepted":
+        return (f"accepted, but gcc says {theirs}", False) if theirs else ("accepted by both", True)
+    of = "syntax" if told else "types or names"
     if theirs:
-        return "refused by all", True
-    shown = " ".join([*tokens[max(wanted - 12, 0) : wanted], ">>>", *tokens[wanted : wanted + 1]])
-    for form, pattern in LEFT_OUT.items():
-        if re.search(f"(?:{pattern})$", f" {shown}"):
-            return f"accepted by gcc alone: {form}", True
-    return f"accepted by gcc alone: {shown}", False
+        return f"refused for {of}, and by gcc", True
+    if told:
+        form, agree = left_out(LEFT_OUT, tokens, wanted)
+        return f"refused for syntax alone: {form}", agree
+    return f"refused for types alone: {ours}", True
+
+
+def examples():
+    """The texts of the examples, which are programs."""
+    for path in sorted(glob.glob(os.path.join(ROOT, "examples", "*", "*.c"))):
+        with open(path) as file:
+            yield file.read()
 
 
 def main():
@@ -257,16 +289,23 @@ def main():
         sys.exit("gcc is not installed: it is in Debian's package gcc")
     made = list(programs(int(sys.argv[1]) if len(sys.argv) > 1 else COUNT))
     texts = ["".join(f"{token}\n" for token in tokens) for tokens in made]
-    with concurrent.futures.ThreadPoolExecutor(os.cpu_count()) as pool:
-        theirs = list(pool.map(gcc_says, texts))
+    with tempfile.NamedTemporaryFile("w", suffix=".h") as file:
+        file.write(header())
+        file.flush()
+        with concurrent.futures.ThreadPoolExecutor(os.cpu_count()) as pool:
+            theirs = list(pool.map(lambda text: gcc_says(text, file.name), texts))
     wanted = [c_grammar.first_refused(tokens) for tokens in made]
-    sorts = list(map(sort_of, run_program(texts), wanted, theirs, made))
+    shown = list(examples())
+    said = run_program([*texts, *shown])
+    sorts = list(map(sort_of, said, wanted, theirs, made))
     for sort, count in sorted(collections.Counter(sort for sort, agree in sorts if agree).items()):
         print(f"{count} {sort}")
     wrong = [sort for sort, agree in sorts if not agree]
+    wrong += [f"a program as made: {one}" for one in said[: len(made) : VARIANTS + 1] if one != "accepted"]
+    wrong += [f"an example: {one}" for one in said[len(made) :] if one != "accepted"]
     for sort in wrong[:SHOWN]:
         print(f"  {sort}")
-    print(f"{len(made)} texts, {len(wrong)} differences")
+    print(f"{len(made)} texts and {len(shown)} examples, {len(wrong)} differences")
     sys.exit(1 if wrong else 0)
 
 

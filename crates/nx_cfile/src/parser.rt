@@ -7,11 +7,11 @@ ghost use Rattle.nx_cexpr.specs.Answers.{Gives};
 ghost use Rattle.nx_cstmt.specs.Reading.{part_pick};
 ghost use Rattle.nx_cparse.specs.Answers.{signs_of, IsParsed, GivesTree};
 
-use nx_clevels::expression;
 use nx_cparse::parse_by;
 use nx_cstmt::inner::Answer;
 use nx_ctok::{CFault, Token};
 use nx_ctree::{Expr, Signed, Unit};
+use nx_cwhole::expression;
 use std::alloc::Global;
 
 /// The tree of an expression with at most so many nodes on a path.

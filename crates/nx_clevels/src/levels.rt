@@ -123,7 +123,7 @@ fn raised<'a, F: Fn(&'a [Signed<'a>], u32, u32) -> Answer<'a, Operand>>(
 
 /// An expression of a level, where a node fits.
 #[tactic(auto, using(nx_cexpr::proofs::Steps::level_zero))]
-pub(crate) fn level<'a, F: Fn(&'a [Signed<'a>], u32, u32) -> Answer<'a, Operand>>(
+pub fn level<'a, F: Fn(&'a [Signed<'a>], u32, u32) -> Answer<'a, Operand>>(
     alloc: Global,
     reader: &F,
     tokens: &'a [Signed<'a>],

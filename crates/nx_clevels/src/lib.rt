@@ -1,8 +1,7 @@
-//! Expressions of C programs: their levels, one after another, and whole expressions.
+//! The levels of expressions of C programs, one after another.
 //! How they are read stands in `nx_cexpr`'s definitions.
 #![tactic(auto)]
 
 mod levels;
-mod whole;
 
-pub use whole::expression;
+pub use levels::level;

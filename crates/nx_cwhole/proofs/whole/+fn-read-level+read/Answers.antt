@@ -3,7 +3,7 @@ use Rattle.nx_ctree.specs.declared.sign.Signed.{Signed}
 use Rattle.nx_cexpr.specs.declared.operand.Operand.{Operand}
 use Rattle.nx_cexpr.specs.Answers.{Gives, GivesFault}
 use Rattle.nx_cexpr.proofs.Steps.{level_down, level_full}
-use Rattle.nx_clevels.proofs.whole.+fn-read-level+read.Goals as goal
+use Rattle.nx_cwhole.proofs.whole.+fn-read-level+read.Goals as goal
 
 pub returns-then-depth-eq0-clause-gives : goal.returns-then-depth-eq0-clause-gives
 returns-then-depth-eq0-clause-gives t c =

@@ -3,11 +3,11 @@ ghost use Rattle.nx_grammar.specs.Reading.{dispatch};
 ghost use Rattle.nx_cexpr.specs.Reading.{level_at, expr_at};
 ghost use Rattle.nx_cexpr.specs.Answers.{Gives, GivesFault, full_pick};
 
-use crate::levels::level;
 use nx_cexpr::operand::Operand;
 use nx_cexpr::parts::tall;
 use nx_cexpr::signs::{begins, full_fault};
 use nx_cexpr::{ParseStop, Tall};
+use nx_clevels::level;
 use nx_cterm::below::{Answer, WHOLE};
 use nx_ctree::Signed;
 use nx_grammar::Kind;

@@ -1,5 +1,5 @@
 use Rattle.std.proofs.Common.{◌+◌, ◌*◌}
-use Rattle.nx_clevels.proofs.whole.+fn-read-level+read.Given as goal
+use Rattle.nx_cwhole.proofs.whole.+fn-read-level+read.Given as goal
 
 abbrev pub decreases-level : goal.decreases-level
 decreases-level l = 2 * l.lower + 1
