@@ -1,0 +1,5 @@
+pub mod Taking
+pub mod Receiving
+pub mod Writing
+pub mod Entering
+pub mod Consoles
