@@ -1,0 +1,4 @@
+pub mod Reaching
+pub mod Reached
+pub mod Passing
+pub mod Ended
