@@ -7,3 +7,6 @@ pub mod Choosing
 pub mod Fitting
 pub mod Coming
 pub mod Acted
+pub mod Formed
+pub mod Steps
+pub mod Booting

@@ -8,8 +8,11 @@ use Rattle.nx_ksys.specs.Picking.{picked}
 use Rattle.nx_ksys.specs.ThreadTable.{WaitingCall, ThreadRow, threads}
 use Rattle.nx_ksys.specs.declared.cooked.Cooked.{Cooked}
 use Rattle.nx_ksys.specs.declared.pick.Pick.{Pick}
+use Rattle.nx_ksys.specs.declared.pick.Pick.TheVariants.{Run, Idle, Ended}
 use Rattle.nx_guests.specs.Guests.{start_of}
 use Rattle.nx_abstract.specs.declared.kernel.Row.{Row}
+use Rattle.nx_abstract.specs.declared.kernel.Over.{Over}
+use Rattle.nx_abstract.specs.declared.kernel.Over.TheVariants as over
 use Rattle.nx_abstract.specs.declared.kernel.Effect.{Effect}
 use Rattle.nx_abstract.specs.declared.kernel.Effect.TheVariants as effect
 
@@ -32,6 +35,12 @@ effect_of (effect.Begins start) = answers.Begins (start_of start)
 -- The choice of the definition was made.
 abbrev pub IsChosen : KernelState → KernelState → Pick → List Reply → Type 0
 IsChosen old new pick replies = picked old ≡ record { to = new; replies = replies; pick = pick }
+
+-- Why no thread is chosen, if none is.
+abbrev pub IsOverBy : Option Over → Pick → Type 0
+IsOverBy None pick = (n : ℕ) × (pick ≡ Run n)
+IsOverBy (Some over.Ended) pick = pick ≡ Ended
+IsOverBy (Some over.Idle) pick = pick ≡ Idle
 
 -- A call as the kernel is told of it, with two inputs, of which those that it hasn't are empty.
 abbrev pub step_of : KernelState → ℕ → Cooked → answers.Stepped

@@ -4,7 +4,8 @@ ghost use Rattle.nx_ksys.specs.ThreadTable.{threads};
 ghost use Rattle.nx_ksys.specs.Gathered.{replies_of};
 ghost use Rattle.nx_ksys.specs.Soundness.{IsSound};
 ghost use Rattle.nx_guests.specs.Turns.{IsFormed};
-ghost use Rattle.nx_abstract.specs.Kernels.{IsRow, IsChosen, IsStepped, is_ready_at};
+ghost use Rattle.nx_ksys.specs.Picking.{picked};
+ghost use Rattle.nx_abstract.specs.Kernels.{IsRow, IsChosen, IsOverBy, IsStepped, is_ready_at};
 
 use nx_guests::Start;
 use nx_ksys::{Cooked, Pick, Replies};
@@ -29,6 +30,15 @@ pub enum Effect {
     Begins(Start),
 }
 
+/// Why a run is over.
+#[derive(Clone, Copy, Debug)]
+pub enum Over {
+    /// No group is left.
+    Ended,
+    /// No thread is ready, and none has a deadline.
+    Idle,
+}
+
 /// A kernel that does what its definition says.
 pub trait Kernel {
     /// Its state.
@@ -45,6 +55,11 @@ pub trait Kernel {
         ensures keeps { keeps self.new }
         ensures chosen { IsChosen (state self.old) (state self.new) result (replies_of replies.new.replies) }
         ensures room { replies.new.room ≡ replies.old.room };
+
+    /// Whether no thread is to be chosen, and why. Nothing changes, and no time passes.
+    fn over(&self) -> Option<Over>
+        requires { keeps self.now }
+        ensures { IsOverBy result (picked (state self.now)).pick };
 
     /// The group and the program of a thread.
     fn thread(&self, number: u32) -> Option<Row>

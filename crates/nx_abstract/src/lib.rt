@@ -5,8 +5,13 @@
 mod acting;
 mod kernel;
 mod making;
+mod run;
+mod stepping;
+mod stop;
 mod telling;
 mod turning;
 
-pub use kernel::{Effect, Kernel, Row};
+pub use kernel::{Effect, Kernel, Over, Row};
+pub use run::Abstract;
+pub use stop::Stop;
 pub use turning::Wrong;
