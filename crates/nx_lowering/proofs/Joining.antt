@@ -1,5 +1,5 @@
 -- Code that was put before other code, part by part, is the code of the whole.
-use Rattle.std.proofs.Common.{◌≡◌, ℕ, zero, suc, ◌+◌, ◌-◌, ◌≤◌, List, [], ◌∷◌, ◌++◌, length, refl, sym, ap, ◌∙◌, arith, append_assoc, length-append}
+use Rattle.std.proofs.Common.{◌≡◌, ℕ, suc, ◌+◌, ◌-◌, List, [], ◌∷◌, ◌++◌, length, refl, sym, ap, ◌∙◌, arith, append_assoc, length-append}
 use Rattle.nx_slot.specs.declared.op.SlotOp.{SlotOp}
 
 pub deeper : (d : ℕ) → d + 1 ≡ suc d

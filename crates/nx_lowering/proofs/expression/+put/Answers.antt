@@ -1,8 +1,8 @@
-use Rattle.std.proofs.Common.{◌≡◌, ℕ, suc, ◌+◌, ◌-◌, List, [], ◌∷◌, ◌++◌, length, refl, sym, ap, ◌∙◌, arith}
+use Rattle.std.proofs.Common.{◌≡◌, ℕ, suc, ◌+◌, List, [], ◌∷◌, ◌++◌, length, refl, sym, ap, ◌∙◌, arith}
 use Rattle.std.proofs.lemmas.Result.{on_ok_weaker}
 use Rattle.nx_checked.specs.declared.checked.CheckedExpr.{CheckedExpr}
 use Rattle.nx_checked.specs.declared.checked.CheckedPlace.{CheckedPlace}
-use Rattle.nx_checked.specs.Trees.{Expr, Place, Unary, Binary, And, Or, Conditional, Convert, Advance, AdvanceBy, Retreat, AddressOf, Assign, AssignElement, Compound, CompoundElement, StepElement, Kernel, Call, Index, expr_of, place_of, args_of, count}
+use Rattle.nx_checked.specs.Trees.{Expr, Place, expr_of, place_of, args_of, count}
 use Rattle.nx_slot.specs.declared.op.Operand.{Operand}
 use Rattle.nx_slot.specs.declared.op.Operand.TheVariants as operand
 use Rattle.nx_slot.specs.declared.op.Comparison.TheVariants as compare
@@ -12,9 +12,8 @@ use Rattle.nx_slot.specs.declared.op.Binary as slot_binary
 use Rattle.nx_slot.specs.declared.op.SlotOp.{SlotOp}
 use Rattle.nx_slot.specs.declared.op.SlotOp.TheVariants as op
 use Rattle.nx_cmean.proofs.Forms as form
-use Rattle.nx_cmean.specs.Meaning.{fun_at}
 use Rattle.nx_lower.specs.Shown.{width_of}
-use Rattle.nx_lower.specs.Code.{expr_code, place_code, fetched_code, args_code, right_code, right_of, binary_of, truth_code, prefix_code, convert_code, kept_code, write_code, read_code, cut_code, raise_code, negate_code, arguments_code, number_of, step_element_code}
+use Rattle.nx_lower.specs.Code.{expr_code, place_code, fetched_code, args_code, right_code, right_of, binary_of, read_code, cut_code, raise_code, negate_code, number_of}
 use Rattle.nx_lowering.specs.Sources.{source_of}
 use Rattle.nx_lowering.proofs.Joining.{deeper, join1, join2, join3, ops2, ops3, put_length, put_more, put_before}
 use Rattle.nx_lowering.proofs.expression.+put.Goals as goal

@@ -1,4 +1,4 @@
-use Rattle.std.proofs.Common.{◌≡◌, ◌≤◌, ◌+◌, ◌*◌, ◌++◌, length, drop}
+use Rattle.std.proofs.Common.{◌≡◌, ◌≤◌, ◌+◌, ◌++◌, length, drop}
 use Rattle.nx_checked.specs.Trees.{args_of}
 use Rattle.nx_lower.specs.Code.{args_code}
 use Rattle.nx_lowering.specs.Sources.{source_of}

@@ -1,17 +1,15 @@
-use Rattle.std.proofs.Common.{rules, ◌≡◌, ℕ, Option, Some, List, [], ◌∷◌, ◌++◌, length, refl, sym, ap, ◌∙◌}
+use Rattle.std.proofs.Common.{List, ◌∷◌, ◌++◌, length, sym, ap, ◌∙◌}
 use Rattle.std.specs.Prelude.{option_map}
 use Rattle.std.proofs.lemmas.Result.{on_ok_weaker}
 use Rattle.nx_checked.specs.declared.checked.CheckedExpr.{CheckedExpr}
 use Rattle.nx_checked.specs.declared.checked.CheckedStmt.{CheckedStmt}
-use Rattle.nx_checked.specs.Trees.{Stmt, Return, expr_of, stmt_of}
+use Rattle.nx_checked.specs.Trees.{Stmt, expr_of, stmt_of}
 use Rattle.nx_slot.specs.declared.op.SlotOp.{SlotOp}
 use Rattle.nx_slot.specs.declared.op.SlotOp.TheVariants.{Back}
 use Rattle.nx_cmean.proofs.Forms.{stmt_do, stmt_for}
-use Rattle.nx_lower.specs.Code.{expr_code}
 use Rattle.nx_lower.specs.Bodies.{option_code, stmt_code}
 use Rattle.nx_lowering.specs.Sources.{source_of}
 use Rattle.nx_lowering.specs.Loops.{do_parts, for_parts}
-use Rattle.nx_lowering.proofs.Joining.{join1}
 use Rattle.nx_lowering.proofs.Closing.{do_closed, for_closed}
 use Rattle.nx_lowering.proofs.statement.+statements.Goals as goal
 

@@ -1,4 +1,4 @@
-use Rattle.std.proofs.Common.{◌≡◌, ◌-◌, length, ap, ◌∙◌}
+use Rattle.std.proofs.Common.{◌-◌, ap, ◌∙◌}
 use Rattle.nx_lowering.proofs.Closing.{closed}
 use Rattle.nx_lowering.proofs.statement.close.Goals as goal
 

@@ -1,4 +1,4 @@
-use Rattle.std.proofs.Common.{◌≡◌, ℕ, List, sym, ap, ◌∙◌}
+use Rattle.std.proofs.Common.{ℕ, List, sym, ap, ◌∙◌}
 use Rattle.std.specs.Prelude.{max}
 use Rattle.nx_checked.specs.declared.checked.CheckedExpr.{CheckedExpr}
 use Rattle.nx_checked.specs.Trees.{Expr, expr_of, args_of}
