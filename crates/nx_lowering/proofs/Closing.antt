@@ -1,30 +1,13 @@
 -- A loop's way back is written after the operations before it.
 use Rattle.std.proofs.Common.{◌≡◌, ℕ, zero, suc, ◌+◌, ◌-◌, ◌<◌, List, [], ◌∷◌, ◌++◌, length, Option, Some, None, refl, sym, ap, ◌∙◌, arith, append_assoc, length-append}
-use Rattle.std.specs.Prelude.{slice_set, reverse}
-use Rattle.std.proofs.Math.Seq.{set-append_seam, set-append_left}
-use Rattle.std.proofs.lemmas.List.{reverse-append, length-reverse}
+use Rattle.std.specs.Prelude.{slice_set}
+use Rattle.std.proofs.Math.Seq.{set-append_seam}
 use Rattle.nx_checked.specs.Trees.{Expr, Stmt, While, Do, For, Return}
 use Rattle.nx_slot.specs.declared.op.SlotOp.{SlotOp}
 use Rattle.nx_slot.specs.declared.op.SlotOp.TheVariants.{Back}
 use Rattle.nx_lower.specs.Code.{Source, expr_code}
 use Rattle.nx_lower.specs.Bodies.{option_code, test_code, for_code, stmt_code}
 use Rattle.nx_lowering.specs.Loops.{while_parts, do_parts, for_parts, return_code}
-
-reverse_front : (a : SlotOp) (l : List SlotOp) → reverse (a ∷ l) ≡ reverse l ++ a ∷ []
-reverse_front a l = reverse-append (a ∷ []) l
-
-pub reverse_set : (l : List SlotOp) (i : ℕ) (x : SlotOp) → i < length l → reverse (slice_set l i x) ≡ slice_set (reverse l) (length l - suc i) x
-reverse_set [] i x h = absurd (omega arith)
-reverse_set (a ∷ l) zero x h =
-    let e : length (a ∷ l) - suc 0 ≡ length (reverse l) = omega (arith, length-reverse l) in
-    reverse_front x l ∙ sym (set-append_seam (reverse l) a [] x) ∙ ap (λ (i : ℕ). slice_set (reverse l ++ a ∷ []) i x) (sym e) ∙ ap (λ (r : List SlotOp). slice_set r (length (a ∷ l) - suc 0) x) (sym (reverse_front a l))
-reverse_set (a ∷ l) (suc i) x h =
-    let k = length l - suc i in
-    let small : k < length (reverse l) = omega (arith, length-reverse l) in
-    let e : length (a ∷ l) - suc (suc i) ≡ k = omega arith in
-    reverse_front a (slice_set l i x) ∙ ap (λ (r : List SlotOp). r ++ a ∷ []) (reverse_set l i x (omega arith))
-    ∙ sym (set-append_left (reverse l) (a ∷ []) k x small)
-    ∙ ap (λ (i : ℕ). slice_set (reverse l ++ a ∷ []) i x) (sym e) ∙ ap (λ (r : List SlotOp). slice_set r (length (a ∷ l) - suc (suc i)) x) (sym (reverse_front a l))
 
 -- The operation after some parts is the way back over all of them.
 pub closed : (code parts rest : List SlotOp) (x : SlotOp) (end by : ℕ) → code ≡ parts ++ x ∷ rest → end ≡ length rest → by ≡ length code - end - 1 → slice_set code (length code - suc end) (Back by) ≡ parts ++ Back (length parts) ∷ rest
@@ -84,3 +67,7 @@ for_closed s n on out a c t b rest =
 pub return_same : (s : Source) (n on out : ℕ) (e : Option Expr) → return_code s n e ≡ stmt_code s n on out (Return e)
 return_same s n on out None = refl
 return_same s n on out (Some e) = refl
+
+-- Code after code.
+pub regroup : (a b c : List SlotOp) → (a ++ b) ++ c ≡ a ++ (b ++ c)
+regroup a b c = append_assoc a b c

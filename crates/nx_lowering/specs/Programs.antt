@@ -7,7 +7,7 @@ use Rattle.nx_cobjects.specs.Groups.{Object, Group}
 use Rattle.nx_cobjects.specs.Starts.{first_group}
 use Rattle.nx_slot.specs.declared.program.SlotProgram.{SlotProgram}
 use Rattle.nx_lower.specs.Bodies.{lowered}
-use Rattle.nx_lowering.specs.Sources.{source_of}
+use Rattle.nx_lowerexpr.specs.Sources.{source_of}
 
 -- A call of each function takes the bytes that its cells and arrays need.
 abbrev pub HasFrames : Checked → Type 0

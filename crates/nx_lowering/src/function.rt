@@ -4,14 +4,12 @@ ghost use Rattle.std.specs.Prelude.{◌≡◌, ◌∷◌, ◌++◌, map, length,
 ghost use Rattle.nx_checked.specs.Frames.{frame_of};
 ghost use Rattle.nx_checked.specs.Trees.{expr_of, fun_of};
 ghost use Rattle.nx_lower.specs.Bodies.{start_code, starts_code, makes_code, initials_code, cells_of, fun_code, fun_temps, array_of, lower_fun};
-ghost use Rattle.nx_lowering.specs.Sources.{source_of};
+ghost use Rattle.nx_lowerexpr.specs.Sources.{source_of};
 
-use crate::code::Code;
-use crate::expression::put_expr;
-use crate::operations::{bytes, width};
 use crate::statement::put_stmts;
 use crate::temporaries::{of_all, of_stmts};
 use nx_checked::{Checked, CheckedExpr, CheckedFunction, Scalar, Shape};
+use nx_lowerexpr::{Code, array_bytes, put_expr, width};
 use nx_slot::{Operand, SlotArray, SlotFunction, SlotOp};
 use sqlite_items::Items;
 use std::alloc::{AllocError, Global};
@@ -121,7 +119,7 @@ fn arrays(alloc: Global, shapes: &[Shape]) -> Result<Items<SlotArray>, AllocErro
     let mut all = Items::new(alloc);
     for s in shapes {
         all.push(SlotArray {
-            bytes: bytes(*s) as usize,
+            bytes: array_bytes(*s) as usize,
             width: width(s.element),
         })?;
     }

@@ -1,10 +1,7 @@
-//! Makes slot code of checked C programs.
+//! Makes slot code of the functions of checked C programs, and of whole programs.
 #![tactic(auto)]
 
-mod code;
-mod expression;
 mod function;
-mod operations;
 mod program;
 mod statement;
 mod temporaries;

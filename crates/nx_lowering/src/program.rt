@@ -5,7 +5,7 @@ ghost use Rattle.nx_cobjects.specs.Starts.{first_group, array_of as array_object
 ghost use Rattle.nx_cobjects.specs.Groups.{object};
 ghost use Rattle.nx_checked.specs.declared.checked.Element.TheVariants as element;
 ghost use Rattle.nx_lower.specs.Bodies.{lowered};
-ghost use Rattle.nx_lowering.specs.Sources.{source_of};
+ghost use Rattle.nx_lowerexpr.specs.Sources.{source_of};
 ghost use Rattle.nx_lowering.specs.Programs.{HasFrames, scalars_bytes, in_words, arrays_bytes, texts_bytes, global_bytes, literal_bytes, lowered_program};
 
 use crate::function::lower_function;

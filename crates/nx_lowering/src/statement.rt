@@ -5,12 +5,11 @@ ghost use Rattle.nx_checked.specs.Trees.{expr_of, stmt_of, stmts_of};
 ghost use Rattle.nx_slot.specs.declared.op.SlotOp.{SlotOp};
 ghost use Rattle.nx_slot.specs.declared.op.SlotOp.TheVariants.{Back as back};
 ghost use Rattle.nx_lower.specs.Bodies.{test_code, stmt_code, stmts_code};
-ghost use Rattle.nx_lowering.specs.Sources.{source_of};
+ghost use Rattle.nx_lowerexpr.specs.Sources.{source_of};
 ghost use Rattle.nx_lowering.specs.Loops.{while_parts, do_parts, for_parts, return_code};
 
-use crate::code::Code;
-use crate::expression::{put_expr, put_option};
 use nx_checked::{Checked, CheckedExpr, CheckedStmt};
+use nx_lowerexpr::{Code, put_expr, put_option};
 use nx_shared::Shared;
 use nx_slot::{Comparison, Operand, SlotOp};
 use std::alloc::AllocError;
@@ -39,7 +38,7 @@ fn close(code: &mut Code, end: usize)
 /// Puts the code of a statement over n cells: after it, the loop's next turn begins on operations
 /// on, and its end stands out operations on.
 #[cycle(statements)]
-#[tactic(auto, using(crate::proofs::Lists::regroup, crate::proofs::Closing::while_closed, crate::proofs::Closing::do_closed, crate::proofs::Closing::for_closed, crate::proofs::Closing::return_same))]
+#[tactic(auto, using(crate::proofs::Closing::regroup, crate::proofs::Closing::while_closed, crate::proofs::Closing::do_closed, crate::proofs::Closing::for_closed, crate::proofs::Closing::return_same))]
 pub fn put_stmt(
     code: &mut Code,
     program: &Checked,

@@ -22,7 +22,7 @@ use Rattle.nx_cmean.specs.Meaning.{no_fun}
 use Rattle.nx_lower.specs.Code.{Source}
 use Rattle.nx_lower.specs.Sound.{SoundFun}
 use Rattle.nx_lower.proofs.Kept.{lowers_programs}
-use Rattle.nx_lowering.specs.Sources.{source_of, shape_of}
+use Rattle.nx_lowerexpr.specs.Sources.{source_of, shape_of}
 use Rattle.nx_sound.specs.Tables.{table_rows, HasFewParameters}
 use Rattle.nx_sound.specs.Laws.{IsSound, WellTypedFilesAreSound, WellTypedFilesAreKept}
 use Rattle.nx_sound.proofs.Entries.{Each, found}

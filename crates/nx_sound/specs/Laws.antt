@@ -13,7 +13,7 @@ use Rattle.nx_slot.specs.Meaning.{Code}
 use Rattle.nx_keeps.specs.Programs.{slot_program}
 use Rattle.nx_lower.specs.Sound.{SoundProgram}
 use Rattle.nx_lower.specs.Programs.{source_program, SameGlobals}
-use Rattle.nx_lowering.specs.Sources.{source_of}
+use Rattle.nx_lowerexpr.specs.Sources.{source_of}
 use Rattle.nx_lowering.specs.Programs.{HasFrames, lowered_program}
 use Rattle.nx_sound.specs.Tables.{table_rows, HasFewParameters}
 

@@ -1,7 +1,7 @@
 use Rattle.std.proofs.Common.{◌≡◌, ◌++◌, drop, map}
 use Rattle.nx_checked.specs.Trees.{fun_of}
 use Rattle.nx_lower.specs.Bodies.{lower_fun, lowered}
-use Rattle.nx_lowering.specs.Sources.{source_of}
+use Rattle.nx_lowerexpr.specs.Sources.{source_of}
 use Rattle.nx_lowering.proofs.program.functions.Given as goal
 
 -- The functions so far, before those that are left, are all of them.

@@ -8,7 +8,7 @@ use Rattle.nx_slot.specs.declared.op.SlotOp.{SlotOp}
 use Rattle.nx_slot.specs.declared.op.SlotOp.TheVariants.{Back}
 use Rattle.nx_cmean.proofs.Forms.{stmt_do, stmt_for}
 use Rattle.nx_lower.specs.Bodies.{option_code, stmt_code}
-use Rattle.nx_lowering.specs.Sources.{source_of}
+use Rattle.nx_lowerexpr.specs.Sources.{source_of}
 use Rattle.nx_lowering.specs.Loops.{do_parts, for_parts}
 use Rattle.nx_lowering.proofs.Closing.{do_closed, for_closed}
 use Rattle.nx_lowering.proofs.statement.+statements.Goals as goal

@@ -1,7 +1,7 @@
 use Rattle.std.proofs.Common.{◌≡◌, ◌≤◌, ◌++◌, length, drop}
 use Rattle.nx_checked.specs.Trees.{stmts_of}
 use Rattle.nx_lower.specs.Bodies.{stmts_code}
-use Rattle.nx_lowering.specs.Sources.{source_of}
+use Rattle.nx_lowerexpr.specs.Sources.{source_of}
 use Rattle.nx_lowering.proofs.statement.+statements.Given as goal
 
 -- the statements from the one that is left on have their code before what stood there

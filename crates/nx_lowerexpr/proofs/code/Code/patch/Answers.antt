@@ -2,8 +2,8 @@ use Rattle.std.proofs.Common.{◌≡◌, ℕ, suc, ◌-◌, ◌<◌, List, lengt
 use Rattle.std.specs.Prelude.{slice_set, reverse}
 use Rattle.std.proofs.lemmas.List.{length-reverse}
 use Rattle.nx_slot.specs.declared.op.SlotOp.{SlotOp}
-use Rattle.nx_lowering.proofs.Closing.{reverse_set}
-use Rattle.nx_lowering.proofs.code.Code.patch.Goals as goal
+use Rattle.nx_lowerexpr.proofs.Patching.{reverse_set}
+use Rattle.nx_lowerexpr.proofs.code.Code.patch.Goals as goal
 
 pub returns : goal.returns
 returns c =

@@ -1,11 +1,11 @@
-// Slot code that is written from its end, so that each jump knows what it passes.
-
 ghost use Rattle.std.specs.Prelude.{◌≡◌, [], ◌∷◌, ◌<◌, ◌-◌, suc, length, slice_set, OnOk};
 
 use nx_slot::SlotOp;
 use std::alloc::{AllocError, Global};
 use std::marker::Model;
 
+/// Slot code that is written from its end, so that each jump knows what it passes. Contracts see the operations, the
+/// first one first.
 #[derive(Drop)]
 pub struct Code {
     ops: Vec<SlotOp>,
@@ -21,6 +21,7 @@ impl Model for Code {
 }
 
 impl Code {
+    /// No operations. This takes no memory.
     pub fn new(alloc: Global) -> Code
         ensures { result ≡ [] }
     {
@@ -29,6 +30,7 @@ impl Code {
         }
     }
 
+    /// How many there are.
     pub fn len(&self) -> usize
         ensures { result ≡ length self.now }
     {

@@ -1,8 +1,8 @@
 use Rattle.std.proofs.Common.{◌≡◌, ◌≤◌, ◌+◌, ◌++◌, length, drop}
 use Rattle.nx_checked.specs.Trees.{args_of}
 use Rattle.nx_lower.specs.Code.{args_code}
-use Rattle.nx_lowering.specs.Sources.{source_of}
-use Rattle.nx_lowering.proofs.expression.+put.Given as goal
+use Rattle.nx_lowerexpr.specs.Sources.{source_of}
+use Rattle.nx_lowerexpr.proofs.expression.+put.Given as goal
 
 -- the arguments from the one that is left on have their code before what stood there
 abbrev pub invariant-put_args-loop-left : goal.invariant-put_args-loop-left

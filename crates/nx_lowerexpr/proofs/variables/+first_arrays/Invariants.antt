@@ -1,4 +1,4 @@
-use Rattle.nx_lowering.proofs.operations.+first_arrays.Given as goal
+use Rattle.nx_lowerexpr.proofs.variables.+first_arrays.Given as goal
 
 abbrev pub decreases-first_arrays : goal.decreases-first_arrays
 decreases-first_arrays l = l.i

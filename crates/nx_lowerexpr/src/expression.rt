@@ -4,14 +4,14 @@ ghost use Rattle.std.specs.Prelude.{◌≡◌, ◌+◌, ◌<◌, ◌^◌, ◌∷
 ghost use Rattle.nx_checked.specs.Trees.{count, expr_of, place_of, args_of};
 ghost use Rattle.nx_lower.specs.Code.{expr_code, loaded_code, place_code, fetched_code, args_code, right_code};
 ghost use Rattle.nx_lower.specs.Bodies.{option_code};
-ghost use Rattle.nx_lowering.specs.Sources.{source_of};
+ghost use Rattle.nx_lowerexpr.specs.Sources.{source_of};
 
 use crate::code::Code;
 use crate::operations::{
-    binary, by_one, call_at, cut, prefix, put_arguments, put_array, put_conversion, put_kept,
-    put_negate, put_raise, put_read, put_step, put_write, right, stepping, text_static, truth,
-    width,
+    binary, by_one, cut, prefix, put_conversion, put_kept, put_negate, put_raise, put_step, right,
+    stepping, truth, width,
 };
+use crate::variables::{call_at, put_arguments, put_array, put_read, put_write, text_static};
 use nx_checked::{Checked, CheckedExpr, CheckedPlace, Element, StepValue};
 use nx_shared::Shared;
 use nx_slot::{Comparison, Operand, SlotOp, Unary};

@@ -14,9 +14,9 @@ use Rattle.nx_slot.specs.declared.op.SlotOp.TheVariants as op
 use Rattle.nx_cmean.proofs.Forms as form
 use Rattle.nx_lower.specs.Shown.{width_of}
 use Rattle.nx_lower.specs.Code.{expr_code, place_code, fetched_code, args_code, right_code, right_of, binary_of, read_code, cut_code, raise_code, negate_code, number_of}
-use Rattle.nx_lowering.specs.Sources.{source_of}
-use Rattle.nx_lowering.proofs.Joining.{deeper, join1, join2, join3, ops2, ops3, put_length, put_more, put_before}
-use Rattle.nx_lowering.proofs.expression.+put.Goals as goal
+use Rattle.nx_lowerexpr.specs.Sources.{source_of}
+use Rattle.nx_lowerexpr.proofs.Joining.{deeper, join1, join2, join3, ops2, ops3, put_length, put_more, put_before}
+use Rattle.nx_lowerexpr.proofs.expression.+put.Goals as goal
 
 pub put_expr-returns-in_ok-put_right-in-AddressOf : goal.put_expr-returns-in_ok-put_right-in-AddressOf
 put_expr-returns-in_ok-put_right-in-AddressOf t c =
