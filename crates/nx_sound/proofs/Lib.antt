@@ -9,4 +9,6 @@ mod Naming
 mod Files
 mod Calls
 mod Reading
+mod Rows
+mod Placed
 mod Whole

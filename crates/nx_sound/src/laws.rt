@@ -1,4 +1,5 @@
 ghost use Rattle.nx_sound.specs.Laws.{TablesHaveFewParameters, WellTypedFilesAreSound, WellTypedFilesAreKept};
+ghost use Rattle.nx_sound.specs.Places.{ObjectsAreThere};
 
 /// A law: each row of a call table that was read has at most six parameters.
 pub fn tables_have_few_parameters()
@@ -17,4 +18,11 @@ pub fn well_typed_files_are_sound()
 /// of stack, and costs at most 64 instructions for each step.
 pub fn well_typed_files_are_kept()
     ensures { WellTypedFilesAreKept }
+{}
+
+/// A law: the first bytes of each variable, array and text of a file stand in the globals or literals of its slot program
+/// where its slot code says, where each array has all of its bytes. There are no further bytes than these and those that
+/// fill arrays up to words.
+pub fn objects_stand_where_code_says()
+    ensures { ObjectsAreThere }
 {}

@@ -3,4 +3,7 @@
 
 mod laws;
 
-pub use laws::{tables_have_few_parameters, well_typed_files_are_kept, well_typed_files_are_sound};
+pub use laws::{
+    objects_stand_where_code_says, tables_have_few_parameters, well_typed_files_are_kept,
+    well_typed_files_are_sound,
+};
