@@ -8,3 +8,6 @@ mod temporaries;
 
 pub use function::lower_function;
 pub use program::lower;
+
+#[cfg(test)]
+mod tests;
