@@ -1,0 +1,6 @@
+mod Temporaries
+mod Operations
+mod Expressions
+mod Bodies
+mod Values
+mod Framed
