@@ -99,6 +99,7 @@ module _ (S : Source) (rows : List CallRow) (last : Used) where
     pub knows : Knows S c.names → Within d → Knows S d.names
     pub sound : Knows S c.names → Within d → Ends S rows last → Grows rows t last → Every (λ g. SoundFun S (fun_of g)) z.functions
     pub frames : Every (λ g. g.frame ≡ frame_of g) z.functions
+    pub small : Every (λ g. g.frame ≤ 1048576) z.functions
     pub bytes : Every HasAll z.arrays
 
   adds_none : (c : Scope) (s : Used) → Adds c c s s nothing
@@ -110,6 +111,7 @@ module _ (S : Source) (rows : List CallRow) (last : Used) where
     knows = λ k r. k;
     sound = λ k r l e. tt;
     frames = tt;
+    small = tt;
     bytes = tt;
   }
 
@@ -124,6 +126,7 @@ module _ (S : Source) (rows : List CallRow) (last : Used) where
         knows = λ k r. b.knows (a.knows k (back r)) r;
         sound = λ k r l f. every_both _ y.functions z.functions (a.sound k (back r) l (both rows b.grows f)) (b.sound (a.knows k (back r)) r l f);
         frames = every_both _ y.functions z.functions a.frames b.frames;
+        small = every_both _ y.functions z.functions a.small b.small;
         bytes = every_both _ y.arrays z.arrays a.bytes b.bytes;
       }
 
@@ -141,6 +144,7 @@ module _ (S : Source) (rows : List CallRow) (last : Used) where
         knows = λ k r. knows_behind c x.name v k (λ z. omega (arith, variables_behind c x.name v, r.variables));
         sound = λ k r l e. tt;
         frames = tt;
+        small = tt;
         bytes = tt;
       }
 
@@ -155,11 +159,18 @@ module _ (S : Source) (rows : List CallRow) (last : Used) where
         knows = λ k r. knows_behind c x.name v k (λ z. omega (arith, arrays_behind c x.name v, r.arrays));
         sound = λ k r l e. tt;
         frames = tt;
+        small = tt;
         bytes = (filled_length (bytes_of q) (contents q.element i) (given_short q.element q.count i h), tt);
       }
 
   function_frame : (names : Names) {b : Bool} {ps : List Param} {f : Body} {s t : Used} {g : CheckedFunction} → IsFunction rows names b ps f s g t → g.frame ≡ frame_of g
   function_frame names (typed_body.Definition p d initials body s t u a ds h l) = refl
+
+  not_large : (n : ℕ) → nat_lt 1048576 n ≡ false → n ≤ 1048576
+  not_large n h = grind (arith, nat_tests)
+
+  function_small : (names : Names) {b : Bool} {ps : List Param} {f : Body} {s t : Used} {g : CheckedFunction} → IsFunction rows names b ps f s g t → g.frame ≤ 1048576
+  function_small names (typed_body.Definition p d initials body s t u a ds h l) = not_large (typed_body.typed_function p d initials body).frame l
 
   external_adds : {c d : Scope} {x : External} {s t : Used} {y : Parts} → IsExternal rows c x s y d t → Adds c d s t y
   external_adds (typed.PlainScalar c x w s r a b k l) = adds_scalar c x w 0 s
@@ -174,6 +185,7 @@ module _ (S : Source) (rows : List CallRow) (last : Used) where
     knows = λ k r. record { globals = k.globals; functions = k.functions };
     sound = λ k r l e. (function_sound S rows last c.names h k l e, tt);
     frames = (function_frame c.names h, tt);
+    small = (function_small c.names h, tt);
     bytes = tt;
   }
 

@@ -1,5 +1,5 @@
 -- A well-typed file is sound, and its slot code keeps it.
-use Rattle.std.proofs.Common.{◌≡◌, ℕ, zero, suc, ◌<◌, List, [], ◌∷◌, length, map, get_or, Some, refl, sym, ap, ◌∙◌, arith}
+use Rattle.std.proofs.Common.{◌≡◌, ℕ, zero, suc, ◌<◌, ◌≤◌, List, [], ◌∷◌, length, map, get_or, Some, refl, sym, ap, ◌∙◌, arith}
 use Rattle.std.proofs.lemmas.List.{length-map}
 use Rattle.std.specs.Prelude.{codes}
 use Rattle.std.specs.Map.{lookup}
@@ -73,6 +73,7 @@ module _ (table : List CallRow) (w : AreRows table) (few : HasFewParameters tabl
         main = main.holds.place;
         no_parameters = sym main.holds.params ∙ none;
         frames = all_of (λ g. g.frame ≡ frame_of g) z.functions a.frames;
+        small = all_of (λ g. g.frame ≤ 1048576) z.functions a.small;
         bytes = all_of HasAll z.arrays a.bytes;
       }
 

@@ -1,5 +1,5 @@
 -- What is said of well-typed files and the slot code that they are lowered to.
-use Rattle.std.specs.Prelude.{◌≡◌, ℕ, ◌<◌, All, List, length, Option}
+use Rattle.std.specs.Prelude.{◌≡◌, ℕ, ◌<◌, ◌≤◌, All, List, length, Option}
 use Rattle.nx_conditions.specs.declared.meaning.Meaning.{Meaning}
 use Rattle.nx_calls.specs.declared.row.CallRow.{CallRow}
 use Rattle.nx_calls.specs.Table.{AreRows, HaveRows}
@@ -31,6 +31,7 @@ pub record IsSound (table : List CallRow) (p : Checked) : Type 0 where
   pub main : p.main < length p.functions
   pub no_parameters : length (fun_at (source_of p).program p.main).params ≡ 0
   pub frames : HasFrames p
+  pub small : All (λ g. g.frame ≤ 1048576) p.functions
   pub bytes : HasBytes p
 
 abbrev pub WellTypedFilesAreSound : Type 0

@@ -8,7 +8,7 @@ pub fn tables_have_few_parameters()
 
 /// A law: a well-typed file names functions, variables, arrays, texts and calls that there are, and calls functions with as
 /// many arguments as they have parameters. Its calls are rows of the table. Its main function has no parameter, each of
-/// its functions has the frame that it needs, and each array all of its bytes.
+/// its functions has the frame that it needs, of at most 1,048,576 bytes, and each array all of its bytes.
 pub fn well_typed_files_are_sound()
     ensures { WellTypedFilesAreSound }
 {}
