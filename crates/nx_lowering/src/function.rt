@@ -7,10 +7,10 @@ ghost use Rattle.nx_lower.specs.Bodies.{start_code, starts_code, makes_code, ini
 ghost use Rattle.nx_lowerexpr.specs.Sources.{source_of};
 
 use crate::statement::put_stmts;
-use crate::temporaries::{of_all, of_stmts};
 use nx_checked::{Checked, CheckedExpr, CheckedFunction, Scalar, Shape};
 use nx_lowerexpr::{Code, array_bytes, put_expr, width};
 use nx_slot::{Operand, SlotArray, SlotFunction, SlotOp};
+use nx_temporaries::{of_all, of_stmts};
 use sqlite_items::Items;
 use std::alloc::{AllocError, Global};
 

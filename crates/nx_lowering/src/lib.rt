@@ -4,7 +4,6 @@
 mod function;
 mod program;
 mod statement;
-mod temporaries;
 
 pub use function::lower_function;
 pub use program::lower;

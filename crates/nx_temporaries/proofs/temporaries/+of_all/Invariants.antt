@@ -1,5 +1,5 @@
 use Rattle.std.proofs.Common.{length}
-use Rattle.nx_lowering.proofs.temporaries.+of_all.Given as goal
+use Rattle.nx_temporaries.proofs.temporaries.+of_all.Given as goal
 
 abbrev pub decreases-of_all : goal.decreases-of_all
 decreases-of_all l = length l.es.now

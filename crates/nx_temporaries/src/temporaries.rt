@@ -39,8 +39,9 @@ fn at_least_one(n: u32) -> u32
     most(1, n)
 }
 
+// The values that an expression keeps, its own among them.
 #[cycle(temporaries)]
-pub fn of_expr(e: &CheckedExpr) -> Result<u32, AllocError>
+fn of_expr(e: &CheckedExpr) -> Result<u32, AllocError>
     ensures { IfOk result (λ n. n ≡ temps_of (expr_of e.now)) }
 {
     match e {
@@ -130,7 +131,7 @@ fn of_args(xs: &[CheckedExpr]) -> Result<u32, AllocError>
     Ok(all)
 }
 
-pub fn of_option(e: &Option<Shared<CheckedExpr>>) -> Result<u32, AllocError>
+fn of_option(e: &Option<Shared<CheckedExpr>>) -> Result<u32, AllocError>
     ensures { IfOk result (λ n. n ≡ option_temps (option_map expr_of e.now)) }
 {
     match e {
@@ -139,6 +140,7 @@ pub fn of_option(e: &Option<Shared<CheckedExpr>>) -> Result<u32, AllocError>
     }
 }
 
+/// The greatest number of values of one of these expressions, 0 without any.
 pub fn of_all(es: &[CheckedExpr]) -> Result<u32, AllocError>
     ensures { IfOk result (λ n. n ≡ all_temps (map expr_of es.now)) }
 {
@@ -152,7 +154,7 @@ pub fn of_all(es: &[CheckedExpr]) -> Result<u32, AllocError>
 }
 
 #[cycle(bodies)]
-pub fn of_stmt(s: &CheckedStmt) -> Result<u32, AllocError>
+fn of_stmt(s: &CheckedStmt) -> Result<u32, AllocError>
     ensures { IfOk result (λ n. n ≡ stmt_temps (stmt_of s.now)) }
 {
     match s {
@@ -188,6 +190,7 @@ pub fn of_stmt(s: &CheckedStmt) -> Result<u32, AllocError>
     }
 }
 
+/// The greatest number of values of an expression of these statements, 0 without any.
 #[cycle(bodies)]
 pub fn of_stmts(ss: &[CheckedStmt]) -> Result<u32, AllocError>
     ensures { IfOk result (λ n. n ≡ stmts_temps (stmts_of ss.now)) }

@@ -4,7 +4,7 @@ use Rattle.nx_checked.specs.declared.checked.CheckedExpr.{CheckedExpr}
 use Rattle.nx_checked.specs.Trees.{Expr, expr_of, args_of}
 use Rattle.nx_cmean.proofs.Forms.{at_kernel, at_call}
 use Rattle.nx_lower.specs.Bodies.{temps_of, args_temps}
-use Rattle.nx_lowering.proofs.temporaries.+temporaries.Goals as goal
+use Rattle.nx_temporaries.proofs.temporaries.+temporaries.Goals as goal
 
 pub of_expr-returns-in_ok-of_args-in-Kernel : goal.of_expr-returns-in_ok-of_args-in-Kernel
 of_expr-returns-in_ok-of_args-in-Kernel t c =
